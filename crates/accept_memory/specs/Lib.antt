@@ -1,0 +1,4 @@
+pub mod Levels
+pub mod Walks
+pub mod Views
+pub mod Promises

@@ -1,0 +1,4 @@
+pub mod Pages
+pub mod Requests
+pub mod Replies
+pub mod Laws

@@ -1,0 +1,4 @@
+pub mod Map
+pub mod Cap
+pub mod Retry
+pub mod Inject
