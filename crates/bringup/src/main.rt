@@ -2,9 +2,7 @@
 // that succeeds and one that a missing page stops, each request printed with its reply.
 use std::error::AnyError;
 
-mod recorder;
 mod report;
-mod runs;
 mod stretch;
 
 fn main(rt: LibcRuntime) -> Result<(), AnyError> {

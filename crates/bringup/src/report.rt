@@ -1,50 +1,16 @@
 // What is printed: pages by runs, requests by runs, and what a walk answered.
-ghost use Rattle.bringup.specs.Chains.{levelBytes, goesOn};
 ghost use Rattle.bringup.specs.Names.{errorName, layerName, levelName, pageName, pagesWord, replyName};
 ghost use Rattle.tdcall.specs.Statuses.{decoded};
 ghost use mathlib.Core.Path.{_≡_};
-ghost use lib.Dec.{eqb};
-use crate::recorder::Exchange;
-use crate::runs::Chain;
-use crate::runs::run_end;
 use fault::AcceptError;
 use fault::Fault;
 use fault::Layer;
+use recorder::Exchange;
+use recorder::runs::ByteChain;
+use recorder::runs::ExchangeChain;
+use recorder::runs::run_end;
 use std::io;
 use tdcall::decode;
-
-// A byte goes on from an equal one.
-pub impl Chain for u8 as ByteChain {
-    ghost chained = { eqb };
-
-    fn follows(&self, before: &u8) -> bool {
-        *self == *before
-    }
-}
-
-// A request goes on from one of its level that has the same reply and the block before.
-pub impl Chain for Exchange as ExchangeChain {
-    ghost chained = { goesOn };
-
-    fn follows(&self, before: &Exchange) -> bool {
-        self.level == before.level
-            && self.status == before.status
-            && self.address >= before.address
-            && self.address - before.address == level_bytes(before.level)
-    }
-}
-
-// The size of the blocks of a level; 0 above level 2, where there are none.
-fn level_bytes(level: u8) -> u64
-    ensures { λ r. ⌜ r ≡ levelBytes level ⌝ }
-{
-    match level {
-        0 => 0x1000,
-        1 => 0x20_0000,
-        2 => 0x4000_0000,
-        _ => 0,
-    }
-}
 
 fn level_name(level: u8) -> &'static str
     ensures { λ r. ⌜ now r ≡ levelName level ⌝ }

@@ -1,6 +1,4 @@
 // The stretch of memory that is accepted: its pages as the firmware leaves them, and two walks over it.
-use crate::recorder::Recorder;
-use crate::recorder::RecorderHost;
 use crate::report::print_answer;
 use crate::report::print_exchanges;
 use crate::report::print_pages;
@@ -16,6 +14,8 @@ use hosts::map::MapShape;
 use hosts::retry::Retry;
 use hosts::retry::RetryCount;
 use hosts::retry::RetryHost;
+use recorder::Recorder;
+use recorder::RecorderHost;
 use std::alloc::AllocError;
 use std::alloc::Global;
 use std::error::AnyError;

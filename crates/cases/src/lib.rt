@@ -23,6 +23,8 @@ use hosts::retry::Retry;
 use hosts::retry::RetryCount;
 use hosts::retry::RetryHost;
 
+pub mod bitmaps;
+
 // The list of worked cases holds.
 pub fn worked_cases() -> u8
     ensures { λ _. ⌜ Worked ⌝ }

@@ -6,6 +6,8 @@ ghost use mathlib.Core.Path.{_≡_};
 use host::Host;
 use std::alloc::Global;
 
+pub mod runs;
+
 // A request and its reply.
 #[derive(Clone, Copy)]
 pub struct Exchange {

@@ -2,7 +2,7 @@ use mathlib.Core.Path.{_≡_}
 use mathlib.Core.Bool.{true}
 use Prim.Native.Nat.{ℕ, _+_, _-_, _<_, _≤_}
 use lib.ListN.{length, getD}
-use Rattle.bringup.proofs.runs.run_end.Given as given
+use Rattle.recorder.proofs.runs.run_end.Given as given
 
 abbrev pub Inv-loop-end : given.InvT-loop-end
 Inv-loop-end g l =

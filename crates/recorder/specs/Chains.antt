@@ -2,7 +2,7 @@
 use mathlib.Core.Bool.{Bool, cond, _&&_}
 use Prim.Native.Nat.{ℕ, _-_, _*_, _^_}
 use lib.Dec.{eqb, leb, ltb}
-use Rattle.bringup.specs.declared.recorder.Exchange.{Exchange}
+use Rattle.recorder.specs.declared.Exchange.{Exchange}
 use Rattle.host.specs.Pages.{size}
 
 -- the blocks of a level, up to level 2
