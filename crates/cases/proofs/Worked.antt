@@ -5,7 +5,7 @@ use mathlib.Core.Bool.{true}
 use Prim.Native.Nat.{ℕ, _≤_}
 use native.Mathlib.Omega.{arith}
 use lib.ListN.{length, getD}
-use Rattle.std.proofs.shelf.Tests.{le-leb, ne-eqb}
+use Rattle.std.proofs.shelf.Tests.{cond-false, le-leb, le-ltb, ne-eqb}
 use Rattle.std.specs.declared.result.Result.the-variants.{Err}
 use Rattle.host.specs.Pages.{absent, pending, accepted, accepting, covers}
 use Rattle.host.specs.Replies.{Replies}
@@ -54,4 +54,11 @@ module _ (L : List ℕ) (long : 2 ≤ length L) (all : AllPending L) where
   refused-by-1 = ap (λ (r : ℕ). answerOf (replied (begun 0x1000 0x2800) r)) first-reply
 
 pub worked : Worked
-worked = record { one-request = one-request; refused-by-1 = refused-by-1 }
+worked = record {
+  size-of-one-word = refl;
+  size-of-two-words = refl;
+  built-too-high = λ held. refl;
+  built-below = λ held h. cond-false _ _ _ (le-ltb held 4 h);
+  one-request = one-request;
+  refused-by-1 = refused-by-1;
+}

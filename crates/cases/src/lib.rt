@@ -24,6 +24,7 @@ use hosts::retry::RetryCount;
 use hosts::retry::RetryHost;
 
 pub mod bitmaps;
+pub mod tables;
 
 // The list of worked cases holds.
 pub fn worked_cases() -> u8

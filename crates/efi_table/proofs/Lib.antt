@@ -1,0 +1,4 @@
+pub mod Powers
+pub mod Coverages
+pub mod Ends
+pub mod Overlaps
