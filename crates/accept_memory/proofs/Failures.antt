@@ -1,11 +1,10 @@
 -- How a walk fails: at which address, and by which reply.
 use mathlib.Core.Path.{_≡_, refl, ap, sym, subst, _∙_}
 use mathlib.Core.List.{List, [], _∷_, _++_}
-use mathlib.Core.Logic.{_⊎_, inl, inr}
 use Prim.Native.Nat.{ℕ, zero, suc, _+_}
 use native.Mathlib.Omega.{arith}
 use Rattle.std.specs.declared.result.Result.{Result}
-use Rattle.std.specs.declared.result.Result.the-variants.{Ok, Err}
+use Rattle.std.specs.declared.result.Result.the-variants.{Err}
 use Rattle.tdcall.specs.Statuses.{named, classOf}
 use Rattle.fault.specs.Refusals.{Told}
 use Rattle.host.specs.Pages.{Request, accepting, size}
