@@ -1,4 +1,6 @@
 // The acceptance of memory over any host: one page, or a walk over a span, by steps or at once.
+#![tactic(auto)]
+
 ghost use Rattle.accept_memory.specs.Levels.{level_number};
 ghost use Rattle.accept_memory.specs.Promises.{Promises};
 ghost use Rattle.accept_memory.specs.Walks.{walk_answer, walk_requests};

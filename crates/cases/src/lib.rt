@@ -1,4 +1,6 @@
 // Worked cases, as theorems in one list and as tests over tables.
+#![tactic(auto)]
+
 ghost use Rattle.accept_memory.specs.Walks.{walk_answer, walk_requests};
 ghost use Rattle.cases.specs.Summary.{summary_of};
 ghost use Rattle.cases.specs.Worked.{Worked};

@@ -1,4 +1,6 @@
 // How a table is found: by the entries of UEFI's configuration table, and the image at the pointer of the matching one.
+#![tactic(auto)]
+
 ghost use Rattle.std.specs.Prelude.{◌≡◌, ◌+◌, ◌*◌, ◌^◌, ◌<◌, length, MatchOption, ◌==◌};
 ghost use Rattle.efi_entries.specs.Entries.{Entry, first_pointer, found, if_table, little_endian, may_lie, pointer_in, table_guid};
 ghost use Rattle.efi_entries.specs.Tables.{Finds};

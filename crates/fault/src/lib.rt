@@ -1,4 +1,6 @@
 // Why a call refuses, and where: the one error and the one fault of every layer.
+#![tactic(auto)]
+
 ghost use Rattle.fault.specs.Refusals.{ToldWhole, number, told};
 ghost use Rattle.std.specs.Prelude.{◌≡◌};
 

@@ -1,4 +1,6 @@
 // The interface behind which every host stands: pages, requests and replies, and the laws that each host proves.
+#![tactic(auto)]
+
 ghost use Rattle.std.specs.Prelude.{◌≡◌, ℕ, List, []};
 ghost use Rattle.host.specs.Laws.{Sounds};
 ghost use Rattle.host.specs.Pages.{Pages, accepting, taken};

@@ -1,4 +1,6 @@
 // The hosts: a map of pages over the caller's bytes, and the layers that stand over any host.
+#![tactic(auto)]
+
 ghost use Rattle.host_models.specs.Cap.{CapLaw};
 ghost use Rattle.host_models.specs.Inject.{InjectLaw};
 ghost use Rattle.host_models.specs.Map.{MapLaw};

@@ -1,4 +1,6 @@
 // A layer over any host that keeps each request with its reply, and changes nothing.
+#![tactic(auto)]
+
 ghost use Rattle.std.specs.Prelude.{◌≡◌, true, [], ◌∷◌, ◌++◌, if◌then◌else◌};
 
 use host::Host;

@@ -1,4 +1,6 @@
 // The status that a TDCALL answers, and the error that it names.
+#![tactic(auto)]
+
 ghost use Rattle.std.specs.Prelude.{◌≡◌, ℕ, ◌*◌, ◌^◌};
 ghost use Rattle.tdcall.specs.Statuses.{Named, decoded, named, name_of, number, status_of};
 

@@ -1,4 +1,6 @@
 // The table of unaccepted memory: what its calls do, and what every history of calls keeps.
+#![tactic(auto)]
+
 ghost use Rattle.unaccepted_memory.specs.CallLaws.{AcceptNone, BuiltLaw, ClaimLaw, ClearedOnly, FoundLaw, RefusalsLaw, RegisterEmpty, RegisterLaw, StuckLaw, WrongLaw};
 ghost use Rattle.unaccepted_memory.specs.Promises.{ClaimsSingle, HistoryGoesOn, HistoryKeeps};
 ghost use Rattle.unaccepted_memory.specs.Runs.{RunsLaw};
