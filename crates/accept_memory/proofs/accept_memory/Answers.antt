@@ -68,7 +68,7 @@ returns g c =
     let s = c.args.start in
     let e = c.args.end in
     let whole : record { view = w; then = h.replies c.loop-request.host; pages = h.pages c.loop-request.host; lent = h.lent c.loop-request.host } ≡ rest (bound s e) R P M (begun s e) =
-    rest_still inv.0 (h.replies c.loop-request.host) (h.pages c.loop-request.host) (h.lent c.loop-request.host) w (still_now w c.in-default.ensures) ∙ inv.2 in
+    rest_still inv.0 (h.replies c.loop-request.host) (h.pages c.loop-request.host) (h.lent c.loop-request.host) w (still_now w c.in_default.ensures) ∙ inv.2 in
     let told_is : told_by c.outcome.result ≡ walk_answer R s e = c.outcome.ensures ∙ ap (λ (o : Outcome). answer_of o.view) whole in
     let pages-are : h.pages c.loop-request.host ≡ after R (walk_requests R s e) P = ap (λ (o : Outcome). o.pages) whole in
     record {

@@ -6,7 +6,7 @@ use Rattle.bitmap.proofs.MaskLaws.{fill_step}
 use Rattle.bitmap.proofs.clear_all.Goals as goal
 
 pub loop-w-preserved : goal.loop-w-preserved
-loop-w-preserved c = fill_step (λ k. 0) c.loop-w.words _ c.loop-w.w 0 (omega arith) c.store-word.ensures refl c.loop-w.invariant
+loop-w-preserved c = fill_step (λ k. 0) c.loop-w.words _ c.loop-w.w 0 (omega arith) c.store_word.ensures refl c.loop-w.invariant
 
 pub returns : goal.returns
 returns c =

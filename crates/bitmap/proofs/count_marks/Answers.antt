@@ -13,4 +13,4 @@ pub returns : goal.returns
 returns c =
     let ws : List ℕ = c.args.words.now in
     let all : take c.loop-word.word-index ws ≡ ws = take_all c.loop-word.word-index ws (omega arith) in
-    c.loop-word.invariant ∙ ap (λ n. min n (2 ^ 64 - 1)) (ap (sum_by ones) all ∙ counted ws (λ w. omega (arith, c.type-inv.words w)))
+    c.loop-word.invariant ∙ ap (λ n. min n (2 ^ 64 - 1)) (ap (sum_by ones) all ∙ counted ws (λ w. omega (arith, c.type_inv.words w)))

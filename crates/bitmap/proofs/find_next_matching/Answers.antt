@@ -5,21 +5,21 @@ use Rattle.bitmap.proofs.MaskLaws.{share_is, none_in_word, found_in_word}
 use Rattle.bitmap.proofs.SearchLaws.{found_once}
 use Rattle.bitmap.proofs.find_next_matching.Goals as goal
 
-pub word-share-requires : goal.word-share-requires
-word-share-requires c = (omega arith, (omega arith, omega arith))
+pub word_share-requires : goal.word_share-requires
+word_share-requires c = (omega arith, (omega arith, omega arith))
 
 pub loop-w-preserved : goal.loop-w-preserved
 loop-w-preserved c = (
   omega arith,
-  none_in_word c.args.target c.args.words.now _ _ c.loop-w.w _ (omega (arith, c.type-inv.words c.loop-w.w))
-      (ap₂ bit_and c.match-bits.ensures (c.word-share.ensures ∙ share_is _ _ _)) c.if-hits-ne0.false c.loop-w.invariant.1,
+  none_in_word c.args.target c.args.words.now _ _ c.loop-w.w _ (omega (arith, c.type_inv.words c.loop-w.w))
+      (ap₂ bit_and c.match_bits.ensures (c.word_share.ensures ∙ share_is _ _ _)) c.if-hits-ne0.false c.loop-w.invariant.1,
 )
 
 pub returns-then-hits-ne0 : goal.returns-then-hits-ne0
 returns-then-hits-ne0 c = record {
-  found = rw c.lowest-unit.ensures
-      (found_in_word c.args.target c.args.words.now _ _ c.loop-w.w _ (omega (arith, c.type-inv.words c.loop-w.w))
-      (ap₂ bit_and c.match-bits.ensures (c.word-share.ensures ∙ share_is _ _ _)) (omega arith) (omega arith) (omega arith) c.loop-w.invariant.1);
+  found = rw c.lowest_unit.ensures
+      (found_in_word c.args.target c.args.words.now _ _ c.loop-w.w _ (omega (arith, c.type_inv.words c.loop-w.w))
+      (ap₂ bit_and c.match_bits.ensures (c.word_share.ensures ∙ share_is _ _ _)) (omega arith) (omega arith) (omega arith) c.loop-w.invariant.1);
   once = found_once;
 }
 

@@ -6,6 +6,6 @@ use Rattle.bitmap.proofs.update_range.Given as goal
 
 abbrev pub invariant-loop-w : goal.invariant-loop-w
 invariant-loop-w l =
-    ((k : ℕ) → k < l.w → get_or l.words k 0 ≡ word_written (as_bit l.set-bits) l.initial.words l.start l.end k)
+    ((k : ℕ) → k < l.w → get_or l.words k 0 ≡ word_written (as_bit l.set_bits) l.initial.words l.start l.end k)
     × ((k : ℕ) → l.w ≤ k → get_or l.words k 0 ≡ get_or l.initial.words k 0)
     × ((k : ℕ) → get_or l.initial.words k 0 < 2 ^ 64)

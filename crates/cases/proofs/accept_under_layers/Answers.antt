@@ -14,4 +14,4 @@ returns c =
     ∙ ap (cap_over k) c.new-3.ensures
     ∙ ap (λ (i : Inject MapHost). cap_over k (retry_over n i)) c.new-2.ensures
     ∙ ap (λ (m : MapHost). cap_over k (retry_over n (record { words = c.args.words; used = 0; below = m }))) c.new.ensures in
-    c.accept-memory.ensures.answer ∙ ap (λ (h : Stack). walk_answer (replies_in h) c.args.start c.args.end) made
+    c.accept_memory.ensures.answer ∙ ap (λ (h : Stack). walk_answer (replies_in h) c.args.start c.args.end) made

@@ -3,4 +3,4 @@ use Rattle.efi_table.proofs.Powers.{powers}
 use Rattle.efi_entries.proofs.find.Goals as goal
 
 pub returns : goal.returns
-returns c = record { table = c.found-header.ensures; finds = finds; powers = powers }
+returns c = record { table = c.found_header.ensures; finds = finds; powers = powers }

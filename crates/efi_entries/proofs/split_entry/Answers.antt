@@ -5,7 +5,7 @@ use Rattle.efi_entries.proofs.split_entry.Goals as goal
 pub returns : goal.returns
 returns c = record {
   long = omega (arith, ltb-false);
-  guid = omega (arith, c.little-endian-low.ensures, c.little-endian-high.ensures);
-  pointer = omega (arith, c.little-endian-pointer.ensures);
+  guid = omega (arith, c.little_endian-low.ensures, c.little_endian-high.ensures);
+  pointer = omega (arith, c.little_endian-pointer.ensures);
   behind = rw take_rest;
 }

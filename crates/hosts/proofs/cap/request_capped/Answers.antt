@@ -7,14 +7,14 @@ use Rattle.host_models.proofs.Cap.{cap_law}
 use Rattle.host_models.proofs.Layer.{stepped_now, stepped_later}
 use Rattle.hosts.proofs.cap.request_capped.Goals as goal
 
-pub returns-then-level-cap-level : goal.returns-then-level-cap-level
-returns-then-level-cap-level g c =
-    let k = c.args.cap-level in
+pub returns-then-level-cap_level : goal.returns-then-level-cap_level
+returns-then-level-cap_level g c =
+    let k = c.args.cap_level in
     let R = g.L.Host.replies c.args.below.now in
     let M = g.L.Host.lent c.args.below.now in
     let q = accepting c.args.level c.args.address in
     let law = cap_law k R q in
-    let above = c.if-level-cap-level.true in
+    let above = c.if-level-cap_level.true in
     let r = c.status.result in
     let is = c.status.ensures in
     record {
@@ -27,12 +27,12 @@ returns-then-level-cap-level g c =
 
 pub returns : goal.returns
 returns g c =
-    let k = c.args.cap-level in
+    let k = c.args.cap_level in
     let R = g.L.Host.replies c.args.below.now in
     let M = g.L.Host.lent c.args.below.now in
     let q = accepting c.args.level c.args.address in
     let law = cap_law k R q in
-    let within = c.if-level-cap-level.false in
+    let within = c.if-level-cap_level.false in
     let t = c.accept.ensures in
     let S = g.L.Host.replies c.accept.new.self in
     let r = c.accept.result in

@@ -9,6 +9,6 @@ returns c =
     let h = c.args.self.now in
     let Law : Option (ℕ × ℕ × ℕ) → Type 0 = λ o. Overlaps (shape_of h) c.args.start c.args.end o in
     record {
-      numbers = c.touched-units.ensures;
-      touched = subst Law (sym c.touched-units.ensures) (overlap_law (shape_of h) c.args.start c.args.end h.positive);
+      numbers = c.touched_units.ensures;
+      touched = subst Law (sym c.touched_units.ensures) (overlap_law (shape_of h) c.args.start c.args.end h.positive);
     }

@@ -2,5 +2,5 @@ use Rattle.std.proofs.Common.{arith}
 use Rattle.efi_table.proofs.Powers.{power_is}
 use Rattle.efi_table.proofs.header.build.of_words.Goals as goal
 
-pub invariant-of-result : goal.invariant-of-result
-invariant-of-result c = (power_is 21, (omega arith, (omega arith, (omega arith, (omega arith, (omega arith, tt))))))
+pub invariant_of-result : goal.invariant_of-result
+invariant_of-result c = (power_is 21, (omega arith, (omega arith, (omega arith, (omega arith, (omega arith, tt))))))

@@ -5,13 +5,13 @@ use Rattle.efi_table.proofs.Ends.{few_units}
 use Rattle.efi_table.proofs.Powers.{power_positive}
 use Rattle.efi_table.proofs.header.words.decode.Goals as goal
 
-pub ends-too-high-requires : goal.ends-too-high-requires
-ends-too-high-requires c = power_positive _ (sym c.if-not-is-power-of-two.ensures)
+pub ends_too_high-requires : goal.ends_too_high-requires
+ends_too_high-requires c = power_positive _ (sym c.if-not-is_power_of_two.ensures)
 
-pub invariant-of-result : goal.invariant-of-result
-invariant-of-result c =
+pub invariant_of-result : goal.invariant_of-result
+invariant_of-result c =
     let u : ℕ = c.args.first / 4294967296 in
-    let p : power_of_two u ≡ true = sym c.if-not-is-power-of-two.ensures in
+    let p : power_of_two u ≡ true = sym c.if-not-is_power_of_two.ensures in
     let pos : 0 < u = power_positive u p in
-    let room : c.args.base + c.args.length * 8 * u < 2 ^ 64 = leb-false _ _ (sym c.if-ends-too-high.ensures) in
+    let room : c.args.base + c.args.length * 8 * u < 2 ^ 64 = leb-false _ _ (sym c.if-ends_too_high.ensures) in
     (p, (c.if-length-ne0.false, (omega arith, (room, (pos, (few_units u c.args.base c.args.length pos room, tt))))))
