@@ -21,22 +21,22 @@ pub mod walk;
 
 // Asks for the block of a level at an address, and decodes the reply.
 pub fn accept_page<H: Host>(host: &mut H, level: u8, address: u64) -> Result<(), TdCallError>
-    ensures answer { result ≡ decoded (replies host.old [] (accepting level address)) }
-    ensures later { replies host.new ≡ later (accepting level address) (replies host.old) }
-    ensures after { pages host.new ≡ taken (replies host.old [] (accepting level address)) (accepting level address) (pages host.old) }
-    ensures lent { lent host.new ≡ later (accepting level address) (lent host.old) }
-    ensures fixed { fixed host.new ≡ fixed host.old }
+    ensures answer { result ≡ decoded (H.replies host.old [] (accepting level address)) }
+    ensures later { H.replies host.new ≡ later (accepting level address) (H.replies host.old) }
+    ensures after { H.pages host.new ≡ taken (H.replies host.old [] (accepting level address)) (accepting level address) (H.pages host.old) }
+    ensures lent { H.lent host.new ≡ later (accepting level address) (H.lent host.old) }
+    ensures fixed { H.fixed host.new ≡ H.fixed host.old }
 {
     decode(host.accept(level, address))
 }
 
 // Makes a request of a walk, and answers the whole reply.
 fn ask<H: Host>(host: &mut H, request: PageRequest) -> u64
-    ensures answer { result ≡ replies host.old [] (accepting (level_number request.level) request.address) }
-    ensures later { replies host.new ≡ later (accepting (level_number request.level) request.address) (replies host.old) }
-    ensures after { pages host.new ≡ taken result (accepting (level_number request.level) request.address) (pages host.old) }
-    ensures lent { lent host.new ≡ later (accepting (level_number request.level) request.address) (lent host.old) }
-    ensures fixed { fixed host.new ≡ fixed host.old }
+    ensures answer { result ≡ H.replies host.old [] (accepting (level_number request.level) request.address) }
+    ensures later { H.replies host.new ≡ later (accepting (level_number request.level) request.address) (H.replies host.old) }
+    ensures after { H.pages host.new ≡ taken result (accepting (level_number request.level) request.address) (H.pages host.old) }
+    ensures lent { H.lent host.new ≡ later (accepting (level_number request.level) request.address) (H.lent host.old) }
+    ensures fixed { H.fixed host.new ≡ H.fixed host.old }
 {
     host.accept(request.level.number(), request.address)
 }
@@ -44,12 +44,12 @@ fn ask<H: Host>(host: &mut H, request: PageRequest) -> u64
 // Accepts the pages of [start, end): asks for the largest blocks that fit, and for smaller ones where the host wants them.
 // Answers how many requests it made, or the fault that ended it.
 pub fn accept_memory<H: Host>(host: &mut H, start: u64, end: u64) -> Result<u64, Fault>
-    ensures answer { told_by result ≡ walk_answer (replies host.old) start end }
-    ensures later { replies host.new ≡ since (walk_requests (replies host.old) start end) (replies host.old) }
-    ensures after { pages host.new ≡ after (replies host.old) (walk_requests (replies host.old) start end) (pages host.old) }
-    ensures lent { lent host.new ≡ since (walk_requests (replies host.old) start end) (lent host.old) }
-    ensures fixed { fixed host.new ≡ fixed host.old }
-    ensures promises { Promises start end (replies host.old) (pages host.old) (pages host.new) (told_by result) }
+    ensures answer { told_by result ≡ walk_answer (H.replies host.old) start end }
+    ensures later { H.replies host.new ≡ since (walk_requests (H.replies host.old) start end) (H.replies host.old) }
+    ensures after { H.pages host.new ≡ after (H.replies host.old) (walk_requests (H.replies host.old) start end) (H.pages host.old) }
+    ensures lent { H.lent host.new ≡ since (walk_requests (H.replies host.old) start end) (H.lent host.old) }
+    ensures fixed { H.fixed host.new ≡ H.fixed host.old }
+    ensures promises { Promises start end (H.replies host.old) (H.pages host.old) (H.pages host.new) (told_by result) }
 {
     let mut walk = Walk::begin(start, end);
     while let Some(request) = walk.request() {

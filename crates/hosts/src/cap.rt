@@ -58,11 +58,11 @@ impl<L> Cap<L> {
 
 // Makes a request of the host below, unless its level is above the cap's, and answers the reply.
 fn request_capped<L: Host>(below: &mut L, cap_level: u8, level: u8, address: u64) -> u64
-    ensures answer { result ≡ cap_replies cap_level (replies below.old) [] (accepting level address) }
-    ensures later { cap_replies cap_level (replies below.new) ≡ later (accepting level address) (cap_replies cap_level (replies below.old)) }
-    ensures after { pages below.new ≡ taken result (accepting level address) (pages below.old) }
-    ensures lent { cap_lent cap_level (replies below.new) (lent below.new) ≡ later (accepting level address) (cap_lent cap_level (replies below.old) (lent below.old)) }
-    ensures fixed { fixed below.new ≡ fixed below.old }
+    ensures answer { result ≡ cap_replies cap_level (L.replies below.old) [] (accepting level address) }
+    ensures later { cap_replies cap_level (L.replies below.new) ≡ later (accepting level address) (cap_replies cap_level (L.replies below.old)) }
+    ensures after { L.pages below.new ≡ taken result (accepting level address) (L.pages below.old) }
+    ensures lent { cap_lent cap_level (L.replies below.new) (L.lent below.new) ≡ later (accepting level address) (cap_lent cap_level (L.replies below.old) (L.lent below.old)) }
+    ensures fixed { L.fixed below.new ≡ L.fixed below.old }
 {
     if level > cap_level {
         return TdCallError::TdxPageSizeMismatch.status();

@@ -70,11 +70,11 @@ fn request_injected<L: Host>(
     level: u8,
     address: u64,
 ) -> u64
-    ensures answer { result ≡ inject_replies (drop used.old words.now) (replies below.old) [] (accepting level address) }
-    ensures later { inject_replies (drop used.new words.now) (replies below.new) ≡ later (accepting level address) (inject_replies (drop used.old words.now) (replies below.old)) }
-    ensures after { pages below.new ≡ taken result (accepting level address) (pages below.old) }
-    ensures lent { inject_lent (drop used.new words.now) (replies below.new) (lent below.new) ≡ later (accepting level address) (inject_lent (drop used.old words.now) (replies below.old) (lent below.old)) }
-    ensures fixed { fixed below.new ≡ fixed below.old }
+    ensures answer { result ≡ inject_replies (drop used.old words.now) (L.replies below.old) [] (accepting level address) }
+    ensures later { inject_replies (drop used.new words.now) (L.replies below.new) ≡ later (accepting level address) (inject_replies (drop used.old words.now) (L.replies below.old)) }
+    ensures after { L.pages below.new ≡ taken result (accepting level address) (L.pages below.old) }
+    ensures lent { inject_lent (drop used.new words.now) (L.replies below.new) (L.lent below.new) ≡ later (accepting level address) (inject_lent (drop used.old words.now) (L.replies below.old) (L.lent below.old)) }
+    ensures fixed { L.fixed below.new ≡ L.fixed below.old }
 {
     let (word, after) = next_word(words, *used);
     *used = after;

@@ -58,11 +58,11 @@ impl<L> Retry<L> {
 
 // Makes a request until its reply is not busy, `count` times again at most, and answers the last reply.
 fn request_again<L: Host>(below: &mut L, count: u8, level: u8, address: u64) -> u64
-    ensures answer { result ≡ retry_replies count (replies below.old) [] (accepting level address) }
-    ensures later { retry_replies count (replies below.new) ≡ later (accepting level address) (retry_replies count (replies below.old)) }
-    ensures after { pages below.new ≡ taken result (accepting level address) (pages below.old) }
-    ensures lent { retry_lent count (replies below.new) (lent below.new) ≡ later (accepting level address) (retry_lent count (replies below.old) (lent below.old)) }
-    ensures fixed { fixed below.new ≡ fixed below.old }
+    ensures answer { result ≡ retry_replies count (L.replies below.old) [] (accepting level address) }
+    ensures later { retry_replies count (L.replies below.new) ≡ later (accepting level address) (retry_replies count (L.replies below.old)) }
+    ensures after { L.pages below.new ≡ taken result (accepting level address) (L.pages below.old) }
+    ensures lent { retry_lent count (L.replies below.new) (L.lent below.new) ≡ later (accepting level address) (retry_lent count (L.replies below.old) (L.lent below.old)) }
+    ensures fixed { L.fixed below.new ≡ L.fixed below.old }
 {
     let busy = TdCallError::TdxOperandBusy.class();
     let mut left = count;

@@ -16,7 +16,7 @@ pub trait Chain {
 
 // The place behind the run that begins at a place; that place itself where the list ends before it.
 pub fn run_end<T: Chain>(items: &[T], from: usize) -> usize
-    ensures { RunEnd chained items.now from result }
+    ensures { RunEnd T.chained items.now from result }
 {
     if from >= items.len() {
         return from;

@@ -14,4 +14,11 @@ invariant_of-result c =
     let p : power_of_two u ≡ true = sym c.if-not-is_power_of_two.ensures in
     let pos : 0 < u = power_positive u p in
     let room : c.args.base + c.args.length * 8 * u < 2 ^ 64 = leb-false _ _ (sym c.if-ends_too_high.ensures) in
-    (p, (c.if-length-ne0.false, (omega arith, (room, (pos, (few_units u c.args.base c.args.length pos room, tt))))))
+    record {
+      power = p;
+      whole = c.if-length-ne0.false;
+      some = omega arith;
+      room = room;
+      positive = pos;
+      few = few_units u c.args.base c.args.length pos room;
+    }
