@@ -1,5 +1,5 @@
 -- Lists of requests.
-use Rattle.std.specs.Prelude.{◌≡◌, List, [], ◌∷◌, ◌≢◌}
+use Rattle.std.specs.Prelude.{List, [], ◌∷◌, ◌≢◌}
 use Rattle.host.specs.Pages.{Request}
 
 -- P holds of every request of a list

@@ -1,5 +1,5 @@
 -- When a request goes on from the one before it.
-use Rattle.std.specs.Prelude.{ℕ, ◌-◌, ◌*◌, ◌^◌, Bool, cond, ◌&&◌, ◌==◌, nat_le, nat_lt}
+use Rattle.std.specs.Prelude.{ℕ, ◌-◌, Bool, cond, ◌&&◌, ◌==◌, nat_le, nat_lt}
 use Rattle.recorder.specs.declared.Exchange.{Exchange}
 use Rattle.host.specs.Pages.{size}
 

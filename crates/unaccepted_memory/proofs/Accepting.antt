@@ -5,7 +5,7 @@ use Rattle.host.specs.Replies.{after}
 use Rattle.efi_table.specs.Shapes.{Shape, overlap_of}
 use Rattle.unaccepted_memory.specs.Plans.{requests_of, Outcome, Order, clearing}
 use Rattle.unaccepted_memory.specs.Calls.{bitmap_of, runs_over, accept_in}
-use Rattle.unaccepted_memory.specs.History.{Moment, accept, claimed, by_count, Event, Accepts, claims}
+use Rattle.unaccepted_memory.specs.History.{Moment, accept, by_count, Event, Accepts}
 use Rattle.unaccepted_memory.specs.Promises.{Marked}
 use Rattle.unaccepted_memory.proofs.PlanLaws.{Held, Performed, performed}
 use Rattle.unaccepted_memory.proofs.StepLaws.{Table, Good, Reached, Stepped, Ends, Effect, step}

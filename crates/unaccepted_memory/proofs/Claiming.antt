@@ -7,7 +7,7 @@ use Rattle.efi_table.specs.Shapes.{Shape, overlap_of}
 use Rattle.unaccepted_memory.specs.Runs.{Run, EveryRun}
 use Rattle.unaccepted_memory.specs.Plans.{addresses_of}
 use Rattle.unaccepted_memory.specs.Calls.{bitmap_of, runs_over, claim_first, claim_in}
-use Rattle.unaccepted_memory.specs.History.{Moment, claim, Answer, claimed, none, by_claim, Event, Without, Opened, Claims, claims}
+use Rattle.unaccepted_memory.specs.History.{Moment, claim, Answer, none, by_claim, Event, Without, Opened, Claims}
 use Rattle.unaccepted_memory.specs.Promises.{◌∈◌, Holds, Marked}
 use Rattle.unaccepted_memory.proofs.UnitLaws.{clear_cases_at, clear_less_at}
 use Rattle.unaccepted_memory.proofs.ImageLaws.{bitmap_units}

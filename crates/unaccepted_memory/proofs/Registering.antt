@@ -6,7 +6,7 @@ use Rattle.efi_table.specs.declared.layout.Range.{Range}
 use Rattle.efi_table.specs.Shapes.{Shape}
 use Rattle.unaccepted_memory.specs.Plans.{requests_of, Outcome}
 use Rattle.unaccepted_memory.specs.Calls.{bitmap_of, parts_of, register_in}
-use Rattle.unaccepted_memory.specs.History.{Moment, claimed, by_count, Event, Registers, claims}
+use Rattle.unaccepted_memory.specs.History.{Moment, by_count, Event, Registers}
 use Rattle.unaccepted_memory.specs.Promises.{Holds, Marked}
 use Rattle.unaccepted_memory.proofs.PlanLaws.{Held, Performed, performed}
 use Rattle.unaccepted_memory.proofs.PartLaws.{parts_make, parts_below}

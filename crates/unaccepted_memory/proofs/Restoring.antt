@@ -6,7 +6,7 @@ use Rattle.efi_table.specs.declared.layout.Range.{Range}
 use Rattle.efi_table.specs.Shapes.{Shape, overlap_of}
 use Rattle.unaccepted_memory.specs.Plans.{Outcome, addresses_of}
 use Rattle.unaccepted_memory.specs.Calls.{bitmap_of, with_units, restore_in}
-use Rattle.unaccepted_memory.specs.History.{Moment, restore, Answer, claimed, by_restoring, Event, Spent, Restores, claims}
+use Rattle.unaccepted_memory.specs.History.{Moment, restore, Answer, by_restoring, Event, Spent, Restores}
 use Rattle.unaccepted_memory.specs.Promises.{◌∈◌, Holds, Marked}
 use Rattle.unaccepted_memory.proofs.UnitLaws.{set_keeps_at, set_cases_at, set_here_at}
 use Rattle.unaccepted_memory.proofs.ImageLaws.{bitmap_units}

@@ -10,7 +10,7 @@ use Rattle.efi_table.specs.declared.layout.Range.{Range}
 use Rattle.efi_table.specs.Shapes.{Shape}
 use Rattle.unaccepted_memory.specs.Plans.{Walk, walk_over, Outcome}
 use Rattle.unaccepted_memory.specs.Calls.{bitmap_of, settle_in}
-use Rattle.unaccepted_memory.specs.History.{Moment, settle, Answer, counted, claimed, by_count, Event, Without, Spent, Settles, claims}
+use Rattle.unaccepted_memory.specs.History.{Moment, settle, Answer, by_count, Event, Without, Spent, Settles}
 use Rattle.unaccepted_memory.specs.Promises.{◌∈◌, Holds, Claimed}
 use Rattle.unaccepted_memory.proofs.PlanLaws.{Numbered}
 use Rattle.unaccepted_memory.proofs.ClaimLaws.{without_self, without_rest, without_cases, put_back}

@@ -11,7 +11,7 @@ use Rattle.efi_table.specs.Images.{is_image}
 use Rattle.unaccepted_memory.specs.Runs.{Run}
 use Rattle.unaccepted_memory.specs.Plans.{Walk, requests_of, Outcome, addresses_of}
 use Rattle.unaccepted_memory.specs.Calls.{bitmap_of, in_image, on_image}
-use Rattle.unaccepted_memory.specs.History.{being_registered, Moment, Answer, claimed, refused, Event, Comes, claims}
+use Rattle.unaccepted_memory.specs.History.{being_registered, Moment, Answer, refused, Event, Comes}
 use Rattle.unaccepted_memory.specs.Promises.{◌∈◌, Holds, Marked, Claimed, HandedTo, Succeeded, Safe, accepted_page, marked_unit, open_claim, count_in, Tidy}
 use Rattle.unaccepted_memory.proofs.PlanLaws.{Made, Numbered}
 use Rattle.unaccepted_memory.proofs.ImageLaws.{bitmap_after, header_after, behind_after, own_after, on_own}
