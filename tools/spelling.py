@@ -1,9 +1,8 @@
 #!/usr/bin/env python3
 """Brings the names of this repository's definitions and lemmas to Rattle's spelling.
 
-usage: python3 tools/spelling.py            at the top of a checkout: rewrites specs/, proofs/, clauses and edits
+usage: python3 tools/spelling.py            at the top of a checkout: rewrites specs/, proofs/ and the clauses of src/
        python3 tools/spelling.py --list     prints each name with its new spelling, and changes nothing
-       python3 tools/spelling.py --pages    the same names in README.md and docs/, in backquotes alone
 
 Types (data, records, and definitions whose value is a type) are in camel case; all other names are in snake case.
 Names that Rattle makes, of the library, of parameters and of the code are left as they are.
@@ -15,7 +14,7 @@ import sys
 
 # A name of antt: anything but white space, brackets and the marks that end a name.
 NAME = re.compile(r"[^\s(){}\[\].,;:\"`«»λ→|·]+")
-DECLARED = re.compile(r"^\s*(?:(?:abbrev|unfoldable|pub) )*(?:(data|record) )?([^\s(){}\[\].,;:\"«»λ→|·]+)(?: [({].*)? :\s+(.*)$")
+DECLARED = re.compile(r"^\s*(?:(?:abbrev|unfoldable|pub) )*(?:(data|record) )?([^\s(){}\[\].,;:\"«»λ→|·]+)(?: [({].*)? :(?:\s+(.*))?$")
 WORDS = {"where", "let", "in", "elim", "use", "module", "pub", "mod", "open", "mutual", "infix"}
 # what follows in a file of proofs that answers goals, and in the names of its goals
 MADE = ("goal.", "need.", "given.")
@@ -40,6 +39,7 @@ APART = {
     "count-of": "count_of_answer",
     "countBy": "count_answered",
     "count_by": "count_by_answer",
+    "decoded-from": "decoded_from_lem",
     "is-image": "is_image_lem",
     "is-reply": "is_reply_lem",
     "part-written": "part_written_lem",
@@ -80,7 +80,7 @@ def declared(top):
             if line.lstrip().startswith("--"):
                 continue
             m = DECLARED.match(line)
-            if not m or m.group(2) in WORDS or m.group(3).startswith(MADE):
+            if not m or m.group(2) in WORDS or (m.group(3) or "").startswith(MADE):
                 continue
             kind, name, rest = m.groups()
             is_type = kind is not None or name[:1].isupper()
@@ -100,7 +100,12 @@ def table(top):
 
 
 def turned(text, names):
-    return NAME.sub(lambda m: names.get(m.group(0), m.group(0)), text)
+    def to(m):
+        # what follows `c.` in an answer is a step of the code, and keeps the code's name
+        step = re.search(r"(?:^|\W)c\.$", text[max(0, m.start() - 3) : m.start()])
+        return m.group(0) if step else names.get(m.group(0), m.group(0))
+
+    return NAME.sub(to, text)
 
 
 def clauses(text, names):
@@ -110,10 +115,6 @@ def clauses(text, names):
         word = line.strip().split(" ")[0]
         out.append(turned(line, names) if word in ("ghost", "requires", "ensures", "ensures*", "requires*") else line)
     return "\n".join(out)
-
-
-def pages(text, names):
-    return re.sub(r"`[^`\n]+`", lambda m: turned(m.group(0), names), text)
 
 
 def write(path, text):
@@ -127,12 +128,6 @@ def main():
     if "--list" in sys.argv:
         for name in sorted(names):
             print(name, names[name])
-        return
-    if "--pages" in sys.argv:
-        for folder in (".", "docs"):
-            for name in sorted(os.listdir(folder)):
-                if name.endswith(".md"):
-                    write(os.path.join(folder, name), pages(read(os.path.join(folder, name)), names))
         return
     for path in files(".", ".antt"):
         write(path, turned(read(path), names))

@@ -66,14 +66,14 @@ ended_here k R w w' l m e v s =
     let end = ended_still k (later q R) w' quiet in
     let s' : w'.state ≡ refused l = rw end at s in
     let level : m ≡ l = same_refused l m (sym here ∙ s') in
-    let next-is : w'.next ≡ w.next = ap (λ (x : View). x.next) e in
-    let status-is : w'.status ≡ R [] q = ap (λ (x : View). x.status) e in
+    let next_is : w'.next ≡ w.next = ap (λ (x : View). x.next) e in
+    let status_is : w'.status ≡ R [] q = ap (λ (x : View). x.status) e in
     rw (end, asked_still k (later q R) w' quiet, ← level)
     (record {
       earlier = [];
-      request = rw next-is;
-      reply = rw next-is status-is;
-      not_zero = λ z. stop_not_zero m (R [] q) v (sym status-is ∙ z);
+      request = rw next_is;
+      reply = rw next_is status_is;
+      not_zero = λ z. stop_not_zero m (R [] q) v (sym status_is ∙ z);
     })
 
 -- a walk that a reply ended: its last request was for the block at its next address, and the reply to it was not zero

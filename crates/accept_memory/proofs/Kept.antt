@@ -120,7 +120,7 @@ module _ (s e : ℕ) (R : Replies) (P : Pages) (so : Sounds R P) where
     passed = behind;
     done = finish;
     failed = λ t q. by_number t (fails t q);
-    below = λ t q x from to. let next-is = at_next t (fails t q) in behind x from (omega arith);
+    below = λ t q x from to. let next_is = at_next t (fails t q) in behind x from (omega arith);
     misaligned_end = λ t q. odd t (fails t q);
     last_reply = λ t q. last t (fails t q);
     stepped = (stepped (bound s e) R (begun s e)).0;

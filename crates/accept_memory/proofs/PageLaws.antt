@@ -82,8 +82,8 @@ accepted_here : (r l a : ℕ) (P : Pages) → SoundAccept r l a P → a % 4096 �
 accepted_here r l a P sound even v x from to =
     elim (onward_means l r v) [
       | inl z ↦
-          let in-it : covers l a (x / 4096) ≡ true = and_from _ _ (le-leb (a / 4096) (x / 4096) (omega arith)) (lt-ltb (x / 4096) (a / 4096 + 512 ^ l) (omega arith)) in
-          ap (λ (b : Bool). cond b accepted (P (x / 4096))) (and_from (eqb r 0) (covers l a (x / 4096)) (eq-eqb _ _ z) in-it)
+          let in_it : covers l a (x / 4096) ≡ true = and_from _ _ (le-leb (a / 4096) (x / 4096) (omega arith)) (lt-ltb (x / 4096) (a / 4096 + 512 ^ l) (omega arith)) in
+          ap (λ (b : Bool). cond b accepted (P (x / 4096))) (and_from (eqb r 0) (covers l a (x / 4096)) (eq-eqb _ _ z) in_it)
       | inr z ↦
           let low = z.0 in
           let short : size l ≡ 4096 = rw low in
@@ -112,7 +112,7 @@ passed s e (suc k) R P w o so x from to =
           let r = R [] q in
           let P₁ = taken r q P in
           let rest = asked k (later q R) (replied w r) in
-          let next-is : (replied w r).next ≡ (turned (verdict l (reply_class r)) l r w).next = ap (λ (v : View). v.next) (replied_is w l r h o.placed) in
+          let next_is : (replied w r).next ≡ (turned (verdict l (reply_class r)) l r w).next = ap (λ (v : View). v.next) (replied_is w l r h o.placed) in
           let to' : x < (ended k (later q R) (replied w r)).next = rw (ended_step k R w l h) at to in
           let ih : (replied w r).next ≤ x → after (later q R) rest P₁ (x / 4096) ≡ accepted =
           λ f. passed s e k (later q R) P₁ (replied w r) (on_replied s e w l r o h) (sounds_later R P q so) x f to' in

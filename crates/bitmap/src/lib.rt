@@ -4,7 +4,7 @@
 // and an end, the unit behind its last. It is cut to the capacity, and one that is empty or lies behind it holds no unit.
 #![tactic(auto)]
 
-ghost use Rattle.std.specs.Prelude.{◌≡◌, ℕ, ◌+◌, ◌-◌, ◌*◌, ◌/◌, ◌^◌, ◌<◌, ◌≤◌, min, length, set, count_ones, slice_set};
+ghost use Rattle.std.specs.Prelude.{◌≡◌, ℕ, ◌+◌, ◌-◌, ◌*◌, ◌/◌, ◌^◌, ◌<◌, ◌≤◌, min, length, count_ones, slice_set};
 ghost use Rattle.bitmap.specs.Marks.{RangeWritten, capacity_of, gap, marked, unit_count, units_cleared, units_set, units_written, zeroed};
 ghost use Rattle.bitmap.specs.Masks.{as_bit, bits_from, match_bits, matching, put};
 ghost use Rattle.bitmap.specs.Parts.{PartMarks, part_written};

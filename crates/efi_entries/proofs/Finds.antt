@@ -171,10 +171,10 @@ sound bs img s b e =
 word_is : (img : List ℕ) (s : Shape) (i : ℕ) → i < 3 → written s ≡ take 3 img → get_or img i 0 ≡ get_or (written s) i 0
 word_is img s i h e = sym (get_or-take 3 img i 0 h) ∙ ap (λ (l : List ℕ). get_or l i 0) (sym e)
 
-decoded-from :
+decoded_from_lem :
     (img : List ℕ) (s : Shape) → 3 ≤ length img → power_of_two s.unit ≡ true → 0 < s.length → s.length % 8 ≡ 0 → covered_end s < 2 ^ 64
     → get_or img 0 0 ≡ first_word s.unit → get_or img 1 0 ≡ s.base → get_or img 2 0 ≡ s.length → decoded_from true img ≡ Ok s
-decoded-from img s long power some whole ends a b c = search rules
+decoded_from_lem img s long power some whole ends a b c = search rules
 
 complete : (bs img : List ℕ) (s : Shape) → Bytes bs → Table bs img s → found bs img ≡ Ok s
 complete bs img s y t =
@@ -189,7 +189,7 @@ complete bs img s y t =
     let word : (i : ℕ) → i < 3 → get_or img i 0 ≡ get_or (written s) i 0 = λ i h. word_is img s i h t.words in
     let power : power_of_two s.unit ≡ true = ap power_of_two t.power.is ∙ power_is t.power.exponent in
     let reads : decoded_from true img ≡ Ok s =
-    decoded-from img s (omega (arith, t.held)) power t.some t.whole t.ends (word 0 (omega arith)) (word 1 (omega arith)) (word 2 (omega arith)) in
+    decoded_from_lem img s (omega (arith, t.held)) power t.some t.whole t.ends (word 0 (omega arith)) (word 1 (omega arith)) (word 2 (omega arith)) in
     ap (table_at img) points ∙ ap (λ (b : Bool). whole img (decoded_from b img)) placed ∙ ap (whole img) reads
     ∙ cond-false _ _ _ (le-ltb _ _ t.held)
 

@@ -8,11 +8,11 @@ use Rattle.efi_table.specs.declared.layout.Range.{Range}
 use Rattle.efi_table.specs.Layouts.{covering, range}
 use Rattle.efi_table.specs.Laws.{Coverages, Covers, Listed, range_at}
 
-pub covering-more :
+pub covering_more :
     (low high low' high' i : ℕ) (rs : List Range) → i < length rs → (range_at rs i).start < (range_at rs i).end
     → low' ≡ min low (range_at rs i).start → high' ≡ max high (range_at rs i).end
     → covering low' high' (drop (i + 1) rs) ≡ covering low high (drop i rs)
-covering-more low high low' high' i rs h some l u =
+covering_more low high low' high' i rs h some l u =
     ap₂ (λ (a b : ℕ). covering a b (drop (i + 1) rs)) l u
     ∙ sym (at_drop_more (covering low high) rs i (range 0 0) h ∙ cond-false _ _ _ (lt-leb _ _ some))
 

@@ -3,9 +3,9 @@ use Rattle.std.proofs.Common.{◌≡◌, ℕ, ◌+◌, ◌-◌, ◌*◌, ◌/◌
 use Rattle.std.proofs.lemmas.Bool.{cases_lt, le-leb, le-ltb, lt-leb, lt-ltb}
 use Rattle.efi_table.specs.Shapes.{shape, covered_end}
 
-pub too-high :
+pub too_high :
     (u b n : ℕ) → 0 < u → b < 2 ^ 64 → ltb ((18446744073709551615 - b) / (8 * u)) n ≡ leb (2 ^ 64) (covered_end (shape u b n))
-too-high u b n p h =
+too_high u b n p h =
     let x : ℕ = 18446744073709551615 - b in
     let q : 0 < 8 * u = omega arith in
     let e = mul_assoc n 8 u in

@@ -1,5 +1,5 @@
 -- The map host: one byte a page. What it replies, what its bytes are afterwards, and its pages.
-use Rattle.std.specs.Prelude.{◌≡◌, ℕ, zero, suc, ◌+◌, ◌-◌, ◌/◌, ◌%◌, ◌^◌, ◌<◌, ◌≤◌, Bool, true, false, cond, not, ◌&&◌, ◌||◌, ltb, List, map, length, take, drop, ◌==◌, ◌≢◌, nat_le, nat_lt, slice_index}
+use Rattle.std.specs.Prelude.{◌≡◌, ℕ, zero, suc, ◌+◌, ◌-◌, ◌/◌, ◌%◌, ◌^◌, ◌<◌, ◌≤◌, Bool, true, false, cond, not, ◌&&◌, ◌||◌, List, map, length, take, drop, ◌==◌, ◌≢◌, nat_le, nat_lt, slice_index}
 use Rattle.std.specs.List.{range_with_len}
 use Rattle.tdcall.specs.declared.TdCallError.TheVariants.{TdxOperandInvalid, TdxOperandAddrRangeError, TdxPageAlreadyAccepted, TdxPageSizeMismatch}
 use Rattle.tdcall.specs.Statuses.{status_of}
@@ -49,7 +49,7 @@ map_reply f c L (accepting l a) =
     cond (nat_lt 2 l || not (a % size l == 0)) (status_of TdxOperandInvalid)
     (cond (some_page (λ p. is_absent (map_pages f c L p)) l a) (status_of TdxOperandAddrRangeError)
     (cond (some_page (λ p. is_accepted (map_pages f c L p)) l a) (status_of TdxPageAlreadyAccepted)
-    (cond (some_page (λ p. ltb (map_level f c L p) l) l a) (status_of TdxPageSizeMismatch) 0)))
+    (cond (some_page (λ p. nat_lt (map_level f c L p) l) l a) (status_of TdxPageSizeMismatch) 0)))
 
 -- the bytes once every page of a block is accepted
 abbrev pub block_accepted : ℕ → ℕ → ℕ → List ℕ → List ℕ

@@ -15,7 +15,7 @@ use Rattle.accept_memory.proofs.accept_memory.Goals as goal
 
 kept_by : (R : Replies) (P : Pages) (s e : ℕ) (P' : Pages) (a : Result ℕ Told) → P' ≡ after R (walk_requests R s e) P → a ≡ walk_answer R s e
     → Promises s e R P (after R (walk_requests R s e) P) (walk_answer R s e) → Promises s e R P P' a
-kept_by R P s e P' a pages-are told_is k = rw (pages-are, told_is) k
+kept_by R P s e P' a pages_are told_is k = rw (pages_are, told_is) k
 
 -- one turn, as the code makes it
 turn : (g : given.Over) (c : goal.After-reply g)
@@ -70,12 +70,12 @@ returns g c =
     let whole : record { view = w; then = h.replies c.loop-request.host; pages = h.pages c.loop-request.host; lent = h.lent c.loop-request.host } ≡ rest (bound s e) R P M (begun s e) =
     rest_still inv.0 (h.replies c.loop-request.host) (h.pages c.loop-request.host) (h.lent c.loop-request.host) w (still_now w c.in_default.ensures) ∙ inv.2 in
     let told_is : told_by c.outcome.result ≡ walk_answer R s e = c.outcome.ensures ∙ ap (λ (o : Outcome). answer_of o.view) whole in
-    let pages-are : h.pages c.loop-request.host ≡ after R (walk_requests R s e) P = ap (λ (o : Outcome). o.pages) whole in
+    let pages_are : h.pages c.loop-request.host ≡ after R (walk_requests R s e) P = ap (λ (o : Outcome). o.pages) whole in
     record {
       answer = told_is;
       later = ap (λ (o : Outcome). o.then) whole;
-      after = pages-are;
+      after = pages_are;
       lent = ap (λ (o : Outcome). o.lent) whole;
       fixed = inv.3;
-      promises = kept_by R P s e _ _ pages-are told_is (promises s e R P (h.sound c.args.host.now));
+      promises = kept_by R P s e _ _ pages_are told_is (promises s e R P (h.sound c.args.host.now));
     }

@@ -12,6 +12,6 @@ returns c =
     let last = c.accept_memory.new.host in
     let t = c.accept_memory.ensures in
     let made = c.new-host.ensures in
-    let bytes-are = bytes_after h last (walk_requests (replies_of h) s e) t.lent ∙ ap (λ (k : MapHost). lent_to k (walk_requests (replies_of k) s e)) made in
+    let bytes_are = bytes_after h last (walk_requests (replies_of h) s e) t.lent ∙ ap (λ (k : MapHost). lent_to k (walk_requests (replies_of k) s e)) made in
     let names = sym (ap (λ (k : MapHost). k.pages.ghost_name) made) ∙ same_name _ _ _ _ _ _ t.fixed in
     record { answer = t.answer ∙ ap (λ (k : MapHost). walk_answer (replies_of k) s e) made; bytes = search (rules, moved) }

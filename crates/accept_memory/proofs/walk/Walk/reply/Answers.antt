@@ -10,6 +10,6 @@ returns-in-Asking-AlreadyAccepted c =
     let walk = c.args.self.now in
     let level = c.in-Asking-AlreadyAccepted.level in
     let zero_is : level_number level ≡ 0 = sym c.number.ensures ∙ c.if-number-eq0.true in
-    let class-is = sym c.class_of.ensures ∙ c.in-Asking-AlreadyAccepted.is-1 in
-    let goes : verdict (level_number level) (reply_class c.args.status) ≡ onward = rw (class-is, zero_is) in
+    let class_is = sym c.class_of.ensures ∙ c.in-Asking-AlreadyAccepted.is-1 in
+    let goes : verdict (level_number level) (reply_class c.args.status) ≡ onward = rw (class_is, zero_is) in
     c.pass-in-Asking-AlreadyAccepted.ensures ∙ replied_at (view_of walk) (level_number level) c.args.status onward (ap state_of c.in-Asking-AlreadyAccepted.is-0) goes
