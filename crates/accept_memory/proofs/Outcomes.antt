@@ -1,19 +1,19 @@
 -- What is left of a walk over the replies of a host, as one value, and its steps.
 use Rattle.std.proofs.Common.{◌≡◌, ℕ, zero, suc, ◌<◌, [], ◌∷◌, refl}
-use Rattle.host.specs.Pages.{Pages, Request, accepting, taken}
-use Rattle.host.specs.Replies.{Replies, Lent, later, since, after}
+use Rattle.host.specs.Pages.{Request, accepting}
+use Rattle.host.specs.Replies.{Replies, later}
+use Rattle.host.specs.States.{HostState, received, received_all}
+use Rattle.host.proofs.Layers.{received_none, received_more}
 use Rattle.accept_memory.specs.Walks.{State, asking, finished, misaligned, refused, View, turned, verdict, reply_class, replied, by_state, ended, asked, begun}
 use Rattle.accept_memory.specs.Promises.{Still}
 use Rattle.accept_memory.proofs.Places.{Block, Placed, turned_placed, verdict_lower, left, left_turned, arrive_placed, left_at}
 
 pub record Outcome : Type 0 where
   pub view : View
-  pub then : Replies
-  pub pages : Pages
-  pub lent : Lent
+  pub host : HostState
 
-abbrev pub rest : ℕ → Replies → Pages → Lent → View → Outcome
-rest k R P M w = record { view = ended k R w; then = since (asked k R w) R; pages = after R (asked k R w) P; lent = since (asked k R w) M }
+abbrev pub rest : ℕ → HostState → View → Outcome
+rest k h w = record { view = ended k h.replies w; host = received_all (asked k h.replies w) h }
 
 -- it asks, or it does not
 pub data Asks (s : State) : Type 0 where
@@ -42,9 +42,8 @@ unfolding asked
 asked_still zero R w h = refl
 asked_still (suc k) R w h = by_state_still w.state _ [] h
 
-pub rest_still : (k : ℕ) (R : Replies) (P : Pages) (M : Lent) (w : View) → Still w.state → record { view = w; then = R; pages = P; lent = M } ≡ rest k R P M w
-unfolding after
-rest_still k R P M w h = rw (ended_still k R w h, asked_still k R w h)
+pub rest_still : (k : ℕ) (h : HostState) (w : View) → Still w.state → record { view = w; host = h } ≡ rest k h w
+rest_still k h w s = rw (ended_still k h.replies w s, asked_still k h.replies w s, received_none h)
 
 -- one request, its reply, and what is left after it
 module _ (k : ℕ) (R : Replies) (w : View) (l : ℕ) (s : w.state ≡ asking l) where
@@ -59,11 +58,11 @@ module _ (k : ℕ) (R : Replies) (w : View) (l : ℕ) (s : w.state ≡ asking l)
   unfolding asked
   asked_step = rw s
 
-  pub rest_step : (P : Pages) (M : Lent)
-      → rest k (later (accepting l w.next) R) (taken (R [] (accepting l w.next)) (accepting l w.next) P) (later (accepting l w.next) M) (replied w (R [] (accepting l w.next)))
-      ≡ rest (suc k) R P M w
-  unfolding after
-  rest_step P M = rw (ended_step, asked_step)
+pub rest_step : (k : ℕ) (h : HostState) (w : View) (l : ℕ) → w.state ≡ asking l
+    → rest k (received (accepting l w.next) h) (replied w (h.replies [] (accepting l w.next))) ≡ rest (suc k) h w
+rest_step k h w l s =
+    let q = accepting l w.next in
+    rw (ended_step k h.replies w l s, asked_step k h.replies w l s, received_more h q (asked k (later q h.replies) (replied w (h.replies [] q))))
 
 -- a step of a walk that asks
 module _ (w : View) (l r : ℕ) (s : w.state ≡ asking l) (p : Placed w) where

@@ -1,31 +1,17 @@
 -- One turn of the direct walk: a request, its reply, and the walk's step.
-use Rattle.std.proofs.Common.{◌≡◌, ℕ, zero, suc, ◌<◌, ◌≤◌, [], Some, None, sym, refl, ap, ◌∙◌, arith}
-use Rattle.host.specs.Pages.{Pages, Request, accepting, taken}
-use Rattle.host.specs.Replies.{Replies, Lent, later}
-use Rattle.accept_memory.specs.declared.page_level.PageLevel.{PageLevel}
-use Rattle.accept_memory.specs.declared.page_level.PageLevel.TheVariants.{L1_4K, L2_2M, L3_1G}
-use Rattle.accept_memory.specs.declared.walk.WalkState.{WalkState}
-use Rattle.accept_memory.specs.declared.walk.WalkState.TheVariants.{Asking, Finished, Misaligned, Refused}
-use Rattle.accept_memory.specs.declared.walk.Walk.{Walk}
-use Rattle.accept_memory.specs.Levels.{level_number}
-use Rattle.accept_memory.specs.Views.{view_of, state_of}
+use Rattle.std.proofs.Common.{◌≡◌, ℕ, zero, suc, ◌<◌, ◌≤◌, [], Some, None, sym, ap, ◌∙◌, arith}
+use Rattle.host.specs.Pages.{Request, accepting}
+use Rattle.host.specs.States.{HostState, received}
+use Rattle.host.specs.declared.page_level.PageLevel.{PageLevel}
+use Rattle.host.specs.declared.page_level.PageLevel.TheVariants.{L1_4K, L2_2M, L3_1G}
+use Rattle.host.specs.Levels.{level_number}
 use Rattle.accept_memory.specs.Walks.{asking, View, replied, next_request}
 use Rattle.accept_memory.specs.Promises.{Still}
-use Rattle.accept_memory.proofs.Places.{Placed, PlacedIn, left}
-use Rattle.accept_memory.proofs.Outcomes.{rest, rest_step, asks, still, asks_or_still, by_state_still, left_replied}
+use Rattle.accept_memory.proofs.Places.{Placed, left}
+use Rattle.accept_memory.proofs.Outcomes.{rest, rest_step, asks, still, asks_or_still, by_state_still, left_replied, replied_placed}
 
-low_level : (l : PageLevel) → level_number l ≤ 2
+pub low_level : (l : PageLevel) → level_number l ≤ 2
 low_level = elim [ L1_4K ↦ omega arith | L2_2M ↦ omega arith | L3_1G ↦ omega arith ]
-
--- a walk of the code asks only for a block that fits
-pub walk_placed : (w : Walk) → Placed (view_of w)
-walk_placed w = at w.state refl
-  where
-    at : (s : WalkState) → w.state ≡ s → PlacedIn (state_of s) w.next w.end
-    at (Asking l) e = record { low = low_level l; aligned = w.fits l e; ends = w.room l e }
-    at Finished e = tt
-    at Misaligned e = tt
-    at (Refused l) e = tt
 
 -- a request is that of a walk that asks
 module _ (w : View) (l a : ℕ) (q : Some (accepting l a) ≡ next_request w) where
@@ -55,27 +41,28 @@ still_now w q = elim (asks_or_still w.state) [
   | still h ↦ h
 ]
 
-pub record Turn (R R' : Replies) (P P' : Pages) (M M' : Lent) (w w' : View) (l a r : ℕ) : Type 0 where
+pub record Turn (h h' : HostState) (w w' : View) (l a r : ℕ) : Type 0 where
   pub asks : Some (accepting l a) ≡ next_request w
   pub placed : Placed w
-  pub answer : r ≡ R [] (accepting l a)
-  pub lent : M' ≡ later (accepting l a) M
-  pub later : R' ≡ later (accepting l a) R
-  pub after : P' ≡ taken r (accepting l a) P
+  pub answer : r ≡ h.replies [] (accepting l a)
+  pub state : h' ≡ received (accepting l a) h
   pub view : w' ≡ replied w r
 
-module _ (R R' : Replies) (P P' : Pages) (M M' : Lent) (w w' : View) (l a r : ℕ) (t : Turn R R' P P' M M' w w' l a r) where
+module _ (h h' : HostState) (w w' : View) (l a r : ℕ) (t : Turn h h' w w' l a r) where
   pub turn_less : left w' < left w
   turn_less = rw t.view (left_replied w l r (asked_now w l a t.asks).state t.placed)
 
-  pub turn_rest : (k : ℕ) → left w ≤ suc k → rest k R' P' M' w' ≡ rest (suc k) R P M w
-  turn_rest k h =
-      let q = asked_now w l a t.asks in
-      rw (t.view, t.later, t.after, t.answer, t.lent) (step_of (accepting l a) (ap (accepting l) (sym q.next)) q.state)
-    where
-      step_of : (q : Request) → q ≡ accepting l w.next → w.state ≡ asking l → rest k (later q R) (taken (R [] q) q P) (later q M) (replied w (R [] q)) ≡ rest (suc k) R P M w
-      step_of q e s = rw e (rest_step k R w l s P M)
+  pub turn_placed : Placed w'
+  turn_placed = rw t.view (replied_placed w l r (asked_now w l a t.asks).state t.placed)
 
-  pub turn_again : (k : ℕ) → left w ≤ k → (j : ℕ) × (left w' ≤ j) × (rest j R' P' M' w' ≡ rest k R P M w)
-  turn_again zero h = absurd (omega (arith, turn_less))
-  turn_again (suc k) h = (k, omega (arith, turn_less), turn_rest k h)
+  pub turn_rest : (k : ℕ) → left w ≤ suc k → rest k h' w' ≡ rest (suc k) h w
+  turn_rest k b =
+      let q = asked_now w l a t.asks in
+      rw (t.view, t.state, t.answer) (step_of (accepting l a) (ap (accepting l) (sym q.next)) q.state)
+    where
+      step_of : (q : Request) → q ≡ accepting l w.next → w.state ≡ asking l → rest k (received q h) (replied w (h.replies [] q)) ≡ rest (suc k) h w
+      step_of q e s = rw e (rest_step k h w l s)
+
+  pub turn_again : (k : ℕ) → left w ≤ k → (j : ℕ) × (left w' ≤ j) × (rest j h' w' ≡ rest k h w)
+  turn_again zero b = absurd (omega (arith, turn_less))
+  turn_again (suc k) b = (k, omega (arith, turn_less), turn_rest k b)

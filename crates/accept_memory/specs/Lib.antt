@@ -1,4 +1,5 @@
-pub mod Levels
 pub mod Walks
+pub mod Courses
+pub mod States
 pub mod Views
 pub mod Promises

@@ -1,6 +1,6 @@
 -- A walk over the addresses from a start to an end, by plain numbers: its steps, and what they come to over the replies
 -- of a host.
-use Rattle.std.specs.Prelude.{ℕ, zero, suc, ◌+◌, ◌-◌, ◌/◌, ◌%◌, Bool, cond, ◌&&◌, ◌||◌, List, [], ◌∷◌, Some, None, Ok, Err, Option, Result, ◌==◌, nat_le}
+use Rattle.std.specs.Prelude.{ℕ, zero, suc, ◌+◌, ◌-◌, ◌/◌, ◌%◌, Bool, if◌then◌else◌, ◌&&◌, ◌||◌, List, [], ◌∷◌, Some, None, Ok, Err, Option, Result, ◌==◌, nat_le}
 use Rattle.tdcall.specs.declared.TdCallError.{TdCallError}
 use Rattle.tdcall.specs.declared.TdCallError.TheVariants.{TdxPageAlreadyAccepted, TdxPageSizeMismatch, TdxOperandInvalid}
 use Rattle.tdcall.specs.Statuses.{number, named, class_of}
@@ -32,8 +32,10 @@ fits a e l = a % size l == 0 && nat_le (size l) (e - a)
 -- at address a a walk to e asks for the largest block that fits
 abbrev pub arrive : ℕ → ℕ → State
 arrive a e =
-    cond (nat_le e a) finished
-    (cond (fits a e 2) (asking 2) (cond (fits a e 1) (asking 1) (cond (fits a e 0) (asking 0) misaligned)))
+    if nat_le e a then finished
+    else (if fits a e 2 then asking 2
+    else (if fits a e 1 then asking 1
+    else (if fits a e 0 then asking 0 else misaligned)))
 
 abbrev pub begun : ℕ → ℕ → View
 begun s e = record { next = s; end = e; count = 0; status = 0; state = arrive s e }
@@ -41,9 +43,9 @@ begun s e = record { next = s; end = e; count = 0; status = 0; state = arrive s 
 -- what a reply means to a walk, by the whole reply and its class
 abbrev pub reply_class : ℕ → ReplyClass
 reply_class r =
-    cond (r == 0) Success
-    (cond (class_of r == number TdxPageAlreadyAccepted) AlreadyAccepted
-    (cond (class_of r == number TdxPageSizeMismatch || class_of r == number TdxOperandInvalid) TooLarge Failure))
+    if r == 0 then Success
+    else (if class_of r == number TdxPageAlreadyAccepted then AlreadyAccepted
+    else (if class_of r == number TdxPageSizeMismatch || class_of r == number TdxOperandInvalid then TooLarge else Failure))
 
 -- the block is accepted; a smaller one is to be asked for; or the walk ends
 pub data Verdict : Type 0 where
@@ -54,8 +56,8 @@ pub data Verdict : Type 0 where
 -- what a reply of a class does at a level
 abbrev pub verdict : ℕ → ReplyClass → Verdict
 verdict l Success = onward
-verdict l AlreadyAccepted = cond (l == 0) onward lower
-verdict l TooLarge = cond (l == 0) stop lower
+verdict l AlreadyAccepted = if l == 0 then onward else lower
+verdict l TooLarge = if l == 0 then stop else lower
 verdict l Failure = stop
 
 abbrev pub turned : Verdict → ℕ → ℕ → View → View

@@ -1,27 +1,22 @@
 // A walk over a span of addresses, as plain numbers and a state.
-ghost use Rattle.std.specs.Prelude.{◌≡◌, ℕ, ◌+◌, ◌*◌, ◌/◌, ◌%◌, ◌<◌, ◌≤◌};
-ghost use Rattle.accept_memory.specs.Levels.{level_number};
-ghost use Rattle.accept_memory.specs.declared.page_level.PageLevel.{PageLevel};
-ghost use Rattle.accept_memory.specs.declared.walk.WalkState.TheVariants.{Asking, Refused};
-ghost use Rattle.host.specs.Pages.{size};
-
-use super::page_level;
+use host::page_level::PageLevel;
+use std::marker::Model;
 
 pub mod step;
 
-#[derive(Clone, Copy)]
+#[derive(Clone, Copy, Debug, PartialEq, Eq)]
 pub enum WalkState {
     // It asks for the block of this level at its next address.
-    Asking(page_level::PageLevel),
+    Asking(PageLevel),
     // It has come to the end.
     Finished,
     // No block fits between its next address and the end.
     Misaligned,
     // The reply to its request of this level ended it.
-    Refused(page_level::PageLevel),
+    Refused(PageLevel),
 }
 
-#[derive(Clone, Copy)]
+#[derive(Clone, Copy, Debug, PartialEq, Eq)]
 pub struct Walk {
     next: u64,
     end: u64,
@@ -30,10 +25,21 @@ pub struct Walk {
     // the last reply taken, 0 before any
     status: u64,
     state: WalkState,
-    ghost fits: { (l : PageLevel) → state ≡ Asking l → next % size (level_number l) ≡ 0 },
-    ghost room: { (l : PageLevel) → state ≡ Asking l → next + size (level_number l) ≤ end },
-    // at most three replies for each page of memory below the next address, so that the count cannot overflow
-    ghost few: { (l : PageLevel) → state ≡ Asking l → count + level_number l ≤ 3 * (next / 4096) + 2 },
-    // zero ends no walk
-    ghost failed: { (l : PageLevel) → state ≡ Refused l → 0 < status },
+}
+
+// Clauses see a walk's numbers, and its state by the number of its level.
+impl Model for Walk {
+    ghost use Rattle.accept_memory.specs.Walks.{View};
+    ghost use Rattle.accept_memory.specs.Courses.{OnCourse};
+    ghost use Rattle.accept_memory.specs.States.{state_of, walk_state, state_back};
+
+    ghost Value = { View };
+
+    ghost view = { λ w. record { next = w.next; end = w.end; count = w.count; status = w.status; state = state_of w.state } };
+
+    ghost invariant = { λ w. OnCourse w.next w.end w.count w.status (state_of w.state) };
+
+    ghost inverse = { λ v. record { next = v.next; end = v.end; count = v.count; status = v.status; state = walk_state v.state } };
+
+    ghost inverse_ok = { λ w h. rw (state_back w.state) };
 }

@@ -1,22 +1,24 @@
 -- Laws of marks, for whoever uses a bitmap: they speak of units and never of masks.
-use Rattle.std.proofs.Common.{◌≡◌, ℕ, ◌+◌, ◌*◌, ◌/◌, ◌%◌, ◌<◌, ◌≤◌, ltb, leb, ◌⊎◌, List, length, get_or, sym, ap, ◌∙◌, inl, inr, arith}
+use Rattle.std.proofs.Common.{◌≡◌, ℕ, zero, suc, ◌+◌, ◌*◌, ◌/◌, ◌%◌, ◌^◌, ◌<◌, ◌≤◌, ◌⊎◌, List, length, get_or, sym, ap, ◌∙◌, inl, inr, add-zero, arith}
+use Rattle.std.specs.Int.{bit_at}
+use Rattle.std.proofs.lemmas.Nat.Bits.{bit_at-lt, bit_at_lowest, bit_at-suc, bit_at-zero, same_from_bits_below}
 use Rattle.std.proofs.lemmas.List.FromFn.{get_or-map-range_with_len, length-map-range_with_len}
 use Rattle.std.proofs.lemmas.List.{get_or_past, get_or-replicate, length-replicate, ext_get_or}
-use Rattle.std.proofs.lemmas.Bool.{cases_lt, and_from, and_left, and_right, le-leb, lt-ltb, lt-leb, le-ltb, cond-true, cond-false}
-use Rattle.bitmap.specs.Marks.{bit, marked, Words64, packed, words_of, written, units_written, zeroed, RangeWritten}
+use Rattle.std.proofs.lemmas.Bool.Decides.{nat_tests}
+use Rattle.std.proofs.lemmas.Bool.{cases_lt}
+use Rattle.bitmap.specs.Marks.{marked, Words64, packed, words_of, written, units_written, zeroed, RangeWritten}
 use Rattle.bitmap.specs.Theorems.{MarksTell, SetThenClear, ClearThenSet}
-use Rattle.bitmap.proofs.BitLaws.{bit_lt, bit_ext, bit_of_zero, packed_lt, packed_bit}
 
 pub marked_lt : (ws : List ℕ) (k : ℕ) → marked ws k < 2
 unfolding marked
-marked_lt ws k = bit_lt (k % 64) (get_or ws (k / 64) 0)
+marked_lt ws k = bit_at-lt (get_or ws (k / 64) 0) (k % 64)
 
 pub marked_past : (ws : List ℕ) (k : ℕ) → 64 * length ws ≤ k → marked ws k ≡ 0
 unfolding marked
-marked_past ws k h = ap (bit (k % 64)) (get_or_past ws (k / 64) 0 (omega arith)) ∙ bit_of_zero (k % 64)
+marked_past ws k h = ap (λ x. bit_at x (k % 64)) (get_or_past ws (k / 64) 0 (omega arith)) ∙ bit_at-zero (k % 64)
 
 -- bit n of word w is unit 64 * w + n
-pub marked_at : (ws : List ℕ) (w n : ℕ) → n < 64 → marked ws (64 * w + n) ≡ bit n (get_or ws w 0)
+pub marked_at : (ws : List ℕ) (w n : ℕ) → n < 64 → marked ws (64 * w + n) ≡ bit_at (get_or ws w 0) n
 unfolding marked
 marked_at ws w n s =
     let d : (64 * w + n) / 64 ≡ w = omega arith in
@@ -27,8 +29,23 @@ marked_at ws w n s =
 pub marks_tell : MarksTell
 marks_tell us vs e p q h =
     ext_get_or 0 us vs e (λ w l.
-    bit_ext 64 (get_or us w 0) (get_or vs w 0) (p w) (q w) (λ n s.
+    same_from_bits_below 64 (get_or us w 0) (get_or vs w 0) (p w) (q w) (λ n s.
     sym (marked_at us w n s) ∙ h (64 * w + n) (omega arith) ∙ marked_at vs w n s))
+
+-- a number made of bits has them
+module _ (f : ℕ → ℕ) (small : (k : ℕ) → f k < 2) where
+  pub packed_lt : (k n : ℕ) → packed f k n < 2 ^ n
+  unfolding packed
+  packed_lt k zero = omega arith
+  packed_lt k (suc n) = omega (arith, packed_lt (k + 1) n, small k)
+
+  pub packed_bit : (k n i : ℕ) → i < n → bit_at (packed f k n) i ≡ f (k + i)
+  unfolding packed
+  packed_bit k zero i l = absurd (omega arith)
+  packed_bit k (suc n) zero l = bit_at_lowest _ ∙ rw add-zero (omega (arith, small k))
+  packed_bit k (suc n) (suc i) l =
+      let half : (f k + 2 * packed f (k + 1) n) / 2 ≡ packed f (k + 1) n = omega (arith, small k) in
+      bit_at-suc _ i ∙ ap (λ x. bit_at x i) half ∙ packed_bit (k + 1) n i (omega arith) ∙ ap f (omega arith)
 
 -- words made of marks
 pub word_of : (f : ℕ → ℕ) (n w : ℕ) → w < n → get_or (words_of f n) w 0 ≡ packed f (64 * w) 64
@@ -43,7 +60,7 @@ module _ (f : ℕ → ℕ) (small : (k : ℕ) → f k < 2) (n : ℕ) where
   pub marked_words_of : (k : ℕ) → k < 64 * n → marked (words_of f n) k ≡ f k
   unfolding marked
   marked_words_of k h =
-      ap (bit (k % 64)) (word_of f n (k / 64) (omega arith))
+      ap (λ x. bit_at x (k % 64)) (word_of f n (k / 64) (omega arith))
       ∙ packed_bit f small (64 * (k / 64)) 64 (k % 64) (omega arith) ∙ ap f (omega arith)
 
   pub words64_words_of : Words64 (words_of f n)
@@ -63,27 +80,19 @@ words_of_marked ws h =
 -- a function with a value written to a range
 pub written_in : (v a b : ℕ) (f : ℕ → ℕ) (k : ℕ) → a ≤ k → k < b → written v a b f k ≡ v
 unfolding written
-written_in v a b f k p q = cond-true _ _ _ (and_from _ _ (le-leb a k p) (lt-ltb k b q))
+written_in v a b f k p q = grind (arith, nat_tests)
 
 pub written_out : (v a b : ℕ) (f : ℕ → ℕ) (k : ℕ) → (k < a) ⊎ (b ≤ k) → written v a b f k ≡ f k
 unfolding written
-written_out v a b f k (inl p) = cond-false _ _ _ (and_left (leb a k) (ltb k b) (lt-leb a k p))
-written_out v a b f k (inr p) = cond-false _ _ _ (and_right (leb a k) (ltb k b) (le-ltb k b p))
+written_out v a b f k h = grind (arith, nat_tests)
 
 -- a unit is in a range or outside of it
 pub in_or_out : (a b k : ℕ) → ((a ≤ k) × (k < b)) ⊎ ((k < a) ⊎ (b ≤ k))
-in_or_out a b k =
-    elim (cases_lt k a) [
-      | inl p ↦ inr (inl p)
-      | inr p ↦ elim (cases_lt k b) [ inl q ↦ inl (p, q) | inr q ↦ inr (inr q) ]
-    ]
+in_or_out a b k = grind arith
 
 pub written_lt : (v a b : ℕ) (f : ℕ → ℕ) → v < 2 → ((k : ℕ) → f k < 2) → (k : ℕ) → written v a b f k < 2
-written_lt v a b f h small k =
-    elim (in_or_out a b k) [
-      | inl p ↦ rw (written_in v a b f k p.0 p.1) h
-      | inr p ↦ rw (written_out v a b f k p) (small k)
-    ]
+unfolding written
+written_lt v a b f h small k = grind (arith, nat_tests, small k)
 
 -- words with a value written to a range of units
 pub length_written : (v : ℕ) (ws : List ℕ) (a b : ℕ) → length (units_written v ws a b) ≡ length ws
@@ -146,12 +155,9 @@ clear_then_set ws a b h full =
 pub marked_zeroed : (ws : List ℕ) (k : ℕ) → marked (zeroed ws) k ≡ 0
 unfolding marked
 marked_zeroed ws k =
+    let none : get_or (zeroed ws) (k / 64) 0 ≡ 0 =
     elim (cases_lt (k / 64) (length ws)) [
-      | inl l ↦ ap (bit (k % 64)) (get_or-replicate (length ws) (k / 64) 0 0 l) ∙ bit_of_zero (k % 64)
-      | inr l ↦ ap (bit (k % 64)) (get_or_past (zeroed ws) (k / 64) 0 (rw length-replicate l)) ∙ bit_of_zero (k % 64)
-    ]
-
-pub all_zero : (ws vs : List ℕ) → length vs ≡ length ws → ((k : ℕ) → k < length ws → get_or vs k 0 ≡ 0) → vs ≡ zeroed ws
-all_zero ws vs e z =
-    let long : length (zeroed ws) ≡ length ws = length-replicate (length ws) 0 in
-    ext_get_or 0 vs (zeroed ws) (e ∙ sym long) (λ k l. z k (omega arith) ∙ sym (get_or-replicate (length ws) k 0 0 (omega arith)))
+      | inl l ↦ get_or-replicate (length ws) (k / 64) 0 0 l
+      | inr l ↦ get_or_past (zeroed ws) (k / 64) 0 (rw length-replicate l)
+    ] in
+    ap (λ x. bit_at x (k % 64)) none ∙ bit_at-zero (k % 64)

@@ -5,9 +5,10 @@ use Rattle.std.specs.List.{between}
 use Rattle.std.proofs.lemmas.List.Edits.{length-between, get_or-between}
 use Rattle.std.proofs.lemmas.List.{drop-drop, get_or-take, get_or-drop}
 use Rattle.std.proofs.lemmas.Slice.{take-put_mid_below, drop-put_mid, between-put_mid}
-use Rattle.std.proofs.lemmas.Bool.{cases_lt, and_from, le-leb, cond-true}
-use Rattle.bitmap.specs.Marks.{bit, marked, units_written, RangeWritten}
-use Rattle.bitmap.specs.Parts.{with_part, Lent, part_written}
+use Rattle.std.proofs.lemmas.Bool.{cases_lt}
+use Rattle.std.specs.Int.{bit_at}
+use Rattle.bitmap.specs.Marks.{marked, units_written, RangeWritten}
+use Rattle.bitmap.specs.Parts.{Lent}
 use Rattle.bitmap.proofs.MarkLaws.{written_inside, written_outside}
 
 -- lending `&mut xs[i..j]`, which comes back as ys: what a caller of a function on the part knows of the whole
@@ -28,7 +29,7 @@ unfolding marked
 marked_part xs i j k h =
     let d : (64 * i + k) / 64 ≡ i + k / 64 = omega arith in
     let m : (64 * i + k) % 64 ≡ k % 64 = omega arith in
-    rw (d, m) (ap (bit (k % 64)) (get_or-between xs i j (k / 64) 0 (omega arith)))
+    rw (d, m) (ap (λ x. bit_at x (k % 64)) (get_or-between xs i j (k / 64) 0 (omega arith)))
 
 -- the units before the part and behind it are as they were
 module _ (i j : ℕ) (xs ys after : List ℕ) (l : Lent i j xs ys after) where
@@ -36,13 +37,13 @@ module _ (i j : ℕ) (xs ys after : List ℕ) (l : Lent i j xs ys after) where
   unfolding marked
   marked_front k h =
       let p : k / 64 < i = omega arith in
-      ap (bit (k % 64)) (sym (get_or-take i after (k / 64) 0 p) ∙ ap (λ ws. get_or ws (k / 64) 0) l.front ∙ get_or-take i xs (k / 64) 0 p)
+      ap (λ x. bit_at x (k % 64)) (sym (get_or-take i after (k / 64) 0 p) ∙ ap (λ ws. get_or ws (k / 64) 0) l.front ∙ get_or-take i xs (k / 64) 0 p)
 
   pub marked_back : (k : ℕ) → 64 * j ≤ k → marked after k ≡ marked xs k
   unfolding marked
   marked_back k h =
       let e : j + (k / 64 - j) ≡ k / 64 = omega arith in
-      ap (bit (k % 64)) (rw e at (sym (get_or-drop j after (k / 64 - j) 0) ∙ ap (λ ws. get_or ws (k / 64 - j) 0) l.back ∙ get_or-drop j xs (k / 64 - j) 0))
+      ap (λ x. bit_at x (k % 64)) (rw e at (sym (get_or-drop j after (k / 64 - j) 0) ∙ ap (λ ws. get_or ws (k / 64 - j) 0) l.back ∙ get_or-drop j xs (k / 64 - j) 0))
 
 -- v was written to the units from a to b - 1 of the part
 module _ (v : ℕ) (bound : v < 2) (i j : ℕ) (xs ys after : List ℕ) (a b : ℕ) (l : Lent i j xs ys after)
@@ -77,9 +78,3 @@ module _ (v : ℕ) (bound : v < 2) (i j : ℕ) (xs ys after : List ℕ) (a b : �
           ]
         ];
   }
-
--- the image with a range of a part written
-pub part_written_lem : (v i j : ℕ) (xs ys after : List ℕ) (a b : ℕ) → i ≤ j → j ≤ length xs → Lent i j xs ys after
-    → ys ≡ units_written v (between i j xs) a b → after ≡ part_written v i j xs a b
-part_written_lem v i j xs ys after a b p q l is =
-    l.whole ∙ ap (with_part i j xs) is ∙ sym (cond-true _ _ _ (and_from _ _ (le-leb i j p) (le-leb j (length xs) q)))

@@ -1,14 +1,11 @@
 -- Units and their marks: bit n of word w, the lowest being bit 0, is unit 64 * w + n, and a unit whose bit is 1 is marked.
-use Rattle.std.specs.Prelude.{◌≡◌, ℕ, zero, suc, ◌+◌, ◌-◌, ◌*◌, ◌/◌, ◌%◌, ◌^◌, ◌<◌, ◌≤◌, min, cond, ◌&&◌, ◌⊎◌, List, map, length, replicate, nat_le, nat_lt, slice_index}
+use Rattle.std.specs.Prelude.{◌≡◌, ℕ, zero, suc, ◌+◌, ◌-◌, ◌*◌, ◌/◌, ◌%◌, ◌^◌, ◌<◌, ◌≤◌, min, if◌then◌else◌, ◌&&◌, ◌⊎◌, List, map, length, replicate, sum_by, nat_le, nat_lt, slice_index}
+use Rattle.std.specs.Int.{bit_at}
 use Rattle.std.specs.List.{range_with_len}
-
--- bit n of x: 0 or 1
-unfoldable pub bit : ℕ → ℕ → ℕ
-bit n x = x / 2 ^ n % 2
 
 -- 1 where unit k of the words is marked, 0 where it is not or lies behind the last word
 unfoldable pub marked : List ℕ → ℕ → ℕ
-marked ws k = bit (k % 64) (slice_index ws (k / 64))
+marked ws k = bit_at (slice_index ws (k / 64)) (k % 64)
 
 -- 1 where unit k is a gap, that is not marked
 abbrev pub gap : List ℕ → ℕ → ℕ
@@ -33,7 +30,7 @@ words_of f n = map (λ w. packed f (64 * w) 64) (range_with_len 0 n)
 
 -- f, with the value v for the units from a to b - 1
 unfoldable pub written : ℕ → ℕ → ℕ → (ℕ → ℕ) → ℕ → ℕ
-written v a b f k = cond (nat_le a k && nat_lt k b) v (f k)
+written v a b f k = if nat_le a k && nat_lt k b then v else f k
 
 -- the words with the units from a to b - 1 marked (v is 1) or clear (v is 0), as far as there are words for them
 unfoldable pub units_written : ℕ → List ℕ → ℕ → ℕ → List ℕ
@@ -56,11 +53,6 @@ pub record RangeWritten (v : ℕ) (us vs : List ℕ) (a b : ℕ) : Type 0 where
   -- and every other unit is as it was
   pub outside : (k : ℕ) → (k < a) ⊎ (b ≤ k) → marked vs k ≡ marked us k
 
--- the sum of f over the numbers below n
-unfoldable pub sum_below : (ℕ → ℕ) → ℕ → ℕ
-sum_below f zero = 0
-sum_below f (suc n) = sum_below f n + f n
-
 -- how many units are marked
 abbrev pub unit_count : List ℕ → ℕ
-unit_count ws = sum_below (marked ws) (64 * length ws)
+unit_count ws = sum_by (marked ws) (range_with_len 0 (64 * length ws))

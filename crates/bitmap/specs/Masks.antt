@@ -1,23 +1,33 @@
 -- How the code reaches units a word at a time. Nothing outside this crate speaks of masks.
-use Rattle.std.specs.Prelude.{ℕ, ◌-◌, ◌^◌, Bool, cond, List, bit_and, bit_or}
+use Rattle.std.specs.Prelude.{ℕ, ◌-◌, ◌*◌, ◌^◌, min, List, bit_and, bit_or}
+use Rattle.bitmap.specs.declared.Mark.{Mark}
+use Rattle.bitmap.specs.declared.Mark.TheVariants.{Set, Clear}
 use Rattle.bitmap.specs.Marks.{marked, gap}
 
 -- the word with bits lo to hi - 1 set
 abbrev pub bits_from : ℕ → ℕ → ℕ
 bits_from lo hi = 2 ^ hi - 2 ^ lo
 
--- a truth value as a bit
-abbrev pub as_bit : Bool → ℕ
-as_bit v = cond v 1 0
+-- the bits of word w that are units from a to b - 1
+unfoldable pub share : ℕ → ℕ → ℕ → ℕ
+share a b w = bits_from (a - 64 * w) (min (b - 64 * w) 64)
 
--- the word x with the value v for the bits m
-abbrev pub put : Bool → ℕ → ℕ → ℕ
-put v x m = cond v (bit_or x m) (bit_and x (2 ^ 64 - 1 - m))
+-- a mark as a bit
+abbrev pub as_bit : Mark → ℕ
+as_bit Set = 1
+as_bit Clear = 0
 
--- the bits of the word x that are 1, or those that are 0
-abbrev pub match_bits : Bool → ℕ → ℕ
-match_bits v x = cond v x (2 ^ 64 - 1 - x)
+-- the word x with the mark for the bits m
+abbrev pub put : Mark → ℕ → ℕ → ℕ
+put Set x m = bit_or x m
+put Clear x m = bit_and x (2 ^ 64 - 1 - m)
 
--- 1 where a unit is marked, or where it is a gap
-abbrev pub matching : Bool → List ℕ → ℕ → ℕ
-matching v ws = cond v (marked ws) (gap ws)
+-- the bits of the word x that have the mark
+abbrev pub bits_of : Mark → ℕ → ℕ
+bits_of Set x = x
+bits_of Clear x = 2 ^ 64 - 1 - x
+
+-- 1 where a unit has the mark
+abbrev pub matching : Mark → List ℕ → ℕ → ℕ
+matching Set ws k = marked ws k
+matching Clear ws k = gap ws k

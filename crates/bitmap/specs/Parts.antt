@@ -1,5 +1,5 @@
 -- A bitmap that is a part of an image: the words from i to j - 1.
-use Rattle.std.specs.Prelude.{◌≡◌, ℕ, ◌+◌, ◌*◌, ◌≤◌, min, cond, ◌&&◌, List, ◌++◌, length, take, drop, nat_le}
+use Rattle.std.specs.Prelude.{◌≡◌, ℕ, ◌+◌, ◌*◌, ◌≤◌, min, if◌then◌else◌, ◌&&◌, List, ◌++◌, length, take, drop, nat_le}
 use Rattle.std.specs.List.{between}
 use Rattle.bitmap.specs.Marks.{units_written, RangeWritten}
 
@@ -18,7 +18,7 @@ pub record Lent (i j : ℕ) (xs ys after : List ℕ) : Type 0 where
 -- the image with v written to the units from a to b - 1 of its words from i to j - 1; unchanged where it has no such words
 abbrev pub part_written : ℕ → ℕ → ℕ → List ℕ → ℕ → ℕ → List ℕ
 part_written v i j img a b =
-    cond (nat_le i j && nat_le j (length img)) (with_part i j img (units_written v (between i j img) a b)) img
+    if nat_le i j && nat_le j (length img) then with_part i j img (units_written v (between i j img) a b) else img
 
 -- The same in units of the whole image, of which the part's unit k is unit 64 * i + k.
 abbrev pub PartMarks : ℕ → ℕ → ℕ → List ℕ → List ℕ → ℕ → ℕ → Type 0

@@ -19,9 +19,3 @@ SetThenClear = (ws : List ℕ) (a b : ℕ) → Words64 ws → Nowhere (marked ws
 -- Clearing a range that has no gap, and then setting it, gives the words back.
 abbrev pub ClearThenSet : Type 0
 ClearThenSet = (ws : List ℕ) (a b : ℕ) → Words64 ws → Nowhere (gap ws) a b → units_set (units_cleared ws a b) a b ≡ ws
-
--- Those of them that concern writing, together.
-pub record UpdateLaws : Type 0 where
-  pub told : MarksTell
-  pub undone : SetThenClear
-  pub redone : ClearThenSet

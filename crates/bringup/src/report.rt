@@ -1,38 +1,28 @@
 // What is printed: pages by runs, requests by runs, and what a walk answered.
-ghost use Rattle.bringup.specs.Names.{error_name, layer_name, level_name, page_name, pages_word, reply_name};
+ghost use Rattle.bringup.specs.Names.{level_name, pages_word, reply_name};
 ghost use Rattle.tdcall.specs.Statuses.{decoded};
-ghost use Rattle.std.specs.Prelude.{◌≡◌};
+ghost use Rattle.std.specs.Prelude.{◌≡◌, Some};
 
-use fault::{AcceptError, Fault, Layer};
+use fault::Fault;
+use host::page_level::PageLevel;
+use hosts::map::MapPage;
 use recorder::Exchange;
-use recorder::runs::run_end;
-use std::io;
+use recorder::runs::Chain;
+use std::{fmt, io};
 use tdcall::decode;
 
-fn level_name(level: u8) -> &'static str
-    ensures { result.now ≡ level_name level }
-{
-    match level {
-        0 => "4 KiB",
-        1 => "2 MiB",
-        2 => "1 GiB",
-        _ => "no",
-    }
-}
+// The number of a level, which is printed by the size of the level's pages.
+#[derive(Clone, Copy, Debug)]
+struct LevelNumber(u8);
 
-fn page_name(byte: u8) -> &'static str
-    ensures { result.now ≡ page_name byte }
-{
-    if byte == 1 {
-        "pending, mapped at 4 KiB"
-    } else if byte == 2 {
-        "pending, mapped at 2 MiB"
-    } else if byte == 3 {
-        "pending, mapped at 1 GiB"
-    } else if byte == 4 {
-        "accepted"
-    } else {
-        "absent"
+impl fmt::Display for LevelNumber {
+    ghost output = { λ l. Some (level_name l.0) };
+
+    fn fmt<W: fmt::Write>(&self, f: &mut fmt::Formatter<W>) -> fmt::Result {
+        match PageLevel::try_from(self.0) {
+            Ok(level) => write!(f, "{level}"),
+            Err(_) => f.write_str("no"),
+        }
     }
 }
 
@@ -53,84 +43,34 @@ fn pages_word(count: usize) -> &'static str
 
 // The pages of a map, a line for each run of equal ones.
 pub(crate) fn print_pages(rt: &HostRuntime, base: u64, bytes: &[u8]) -> io::Result<()> {
-    let mut at = 0;
-    while at < bytes.len() {
-        let end = run_end(bytes, at);
-        let address = base.saturating_add((at as u64).saturating_mul(4096));
-        let count = end - at;
-        let name = page_name(bytes[at]);
+    let mut address = base;
+    for run in bytes.chunk_by(|before, byte| byte.follows(before)) {
+        let count = run.len();
         let word = pages_word(count);
-        println!(rt; "  {address:#012x}  {count:>6} {word}  {name}")?;
-        at = end;
+        let page = MapPage::from(run[0]);
+        println!(rt; "  {address:#012x}  {count:>6} {word}  {page}")?;
+        address = address.saturating_add((count as u64).saturating_mul(4096));
     }
     Ok(())
 }
 
 // Requests with their replies, a line for each run of them.
 pub(crate) fn print_exchanges(rt: &HostRuntime, exchanges: &[Exchange]) -> io::Result<()> {
-    let mut at = 0;
-    while at < exchanges.len() {
-        let end = run_end(exchanges, at);
-        let count = end - at;
-        let first = exchanges[at];
-        let level = level_name(first.level);
-        let address = first.address;
+    for run in exchanges.chunk_by(|before, exchange| exchange.follows(before)) {
+        let count = run.len();
+        let first = run[0];
+        let level = LevelNumber(first.block.level);
+        let address = first.block.address;
         let reply = reply_name(first.status);
         println!(rt; "  {count:>6} x {level} from {address:#012x}: {reply}")?;
-        at = end;
     }
     Ok(())
-}
-
-fn layer_name(layer: Layer) -> &'static str
-    ensures { result.now ≡ layer_name layer }
-{
-    match layer {
-        Layer::Host => "host",
-        Layer::Walk => "walk",
-        Layer::Table => "table",
-    }
-}
-
-fn error_name(error: AcceptError) -> &'static str
-    ensures { result.now ≡ error_name error }
-{
-    match error {
-        AcceptError::InvalidAlignment => "InvalidAlignment",
-        AcceptError::OutOfBounds => "OutOfBounds",
-        AcceptError::Overlap => "Overlap",
-        AcceptError::ArithmeticOverflow => "ArithmeticOverflow",
-        AcceptError::TdCall(error) => error.name(),
-        AcceptError::WrongImage => "WrongImage",
-        AcceptError::BadEntries => "BadEntries",
-        AcceptError::NoTable => "NoTable",
-        AcceptError::BadVersion => "BadVersion",
-        AcceptError::BadUnit => "BadUnit",
-        AcceptError::BadBitmap => "BadBitmap",
-        AcceptError::BadCoverage => "BadCoverage",
-        AcceptError::BadHost => "BadHost",
-    }
 }
 
 // What a walk answered: its count, or its fault with every place.
 pub(crate) fn print_answer(rt: &HostRuntime, answer: Result<u64, Fault>) -> io::Result<()> {
     match answer {
         Ok(count) => println!(rt; "answer: {count} requests, every page of the span is accepted"),
-        Err(fault) => print_fault(rt, &fault),
+        Err(fault) => println!(rt; "answer: {fault}"),
     }
-}
-
-fn print_fault(rt: &HostRuntime, fault: &Fault) -> io::Result<()> {
-    let number = fault.number();
-    let name = error_name(fault.error);
-    println!(rt; "answer: refused by {number}, {name}")?;
-    let layer = layer_name(fault.layer);
-    let status = fault.status;
-    let level = fault.level;
-    let address = fault.address;
-    println!(rt; "  layer {layer}, status {status:#018x}, level {level}, address {address:#012x}")?;
-    let count = fault.count;
-    let part = fault.part;
-    let unit = fault.unit;
-    println!(rt; "  count {count}, part {part}, unit {unit}")
 }

@@ -1,7 +1,7 @@
 -- The worked cases hold.
-use Rattle.std.proofs.Common.{◌≡◌, ℕ, ◌≤◌, true, List, [], ◌∷◌, length, get_or, Err, sym, refl, ap, ◌∙◌, arith}
-use Rattle.std.proofs.lemmas.Bool.{cond-false, le-leb, le-ltb, ne_eqb}
-use Rattle.host.specs.Pages.{absent, pending, accepted, accepting, covers}
+use Rattle.std.proofs.Common.{◌≡◌, ℕ, ◌≤◌, true, List, [], ◌∷◌, length, get_or, Err, refl, ap, ◌∙◌, arith}
+use Rattle.std.proofs.lemmas.Grind.{common_steps}
+use Rattle.host.specs.Pages.{pending, accepting, covers}
 use Rattle.host.specs.Replies.{Replies}
 use Rattle.host.proofs.Soundness.{unrolled_now}
 use Rattle.host_models.specs.Map.{map_reply, map_next, map_replies, map_pages, map_level, page_of, Tells, invalid, missing, already, smaller, success}
@@ -9,30 +9,24 @@ use Rattle.host_models.proofs.Map.{map_tells, byte_in, within}
 use Rattle.accept_memory.specs.Walks.{replied, begun, ended, asked, answer_of, walk_answer, walk_requests, misaligned_at}
 use Rattle.cases.specs.Worked.{AllPending, Worked}
 
-byte_pending : (b : ℕ) → 1 ≤ b → b ≤ 3 → page_of b ≡ pending
-byte_pending b h k = rw (ne_eqb b 4 (omega arith), le-leb 1 b h, le-leb b 3 k)
-
-absent_not : absent ≡ pending → ⊥
-absent_not e = let z : ◌≡◌ {A = ℕ} 0 1 = cc in omega arith
-
-accepted_not : accepted ≡ pending → ⊥
-accepted_not e = let z : ◌≡◌ {A = ℕ} 0 1 = cc in omega arith
+byte_pending : (b : ℕ) → (1 ≤ b) × (b ≤ 3) → page_of b ≡ pending
+byte_pending b h = grind (arith, common_steps)
 
 module _ (L : List ℕ) (long : 2 ≤ length L) (all : AllPending L) where
   abbrev R : Replies
   R = map_replies 0 (length L) L
 
   page_one : map_pages 0 (length L) L 1 ≡ pending
-  page_one = let b = all 1 (omega arith) in ap page_of (byte_in 0 (length L) L 1 (omega arith) (omega arith)) ∙ byte_pending (get_or L 1 0) b.0 b.1
+  page_one = ap page_of (byte_in 0 (length L) L 1 (omega arith) (omega arith)) ∙ byte_pending (get_or L 1 0) (all 1 0 (omega arith))
 
   only : (p : ℕ) → covers 0 0x1000 p ≡ true → p ≡ 1
-  only p t = let b = within 0 0x1000 p t in omega (arith, b.0, b.1)
+  only p t = omega (arith, within 0 0x1000 p t)
 
   -- the page at 0x1000 is accepted at once
   granted : (r : ℕ) → Tells (map_pages 0 (length L) L) (map_level 0 (length L) L) 0 0x1000 r → r ≡ 0
   granted r (invalid e n) = absurd (n (record { low = omega arith; aligned = refl }))
-  granted r (missing e v p t h) = absurd (absent_not (sym h ∙ ap (map_pages 0 (length L) L) (only p t) ∙ page_one))
-  granted r (already e v n p t h) = absurd (accepted_not (sym h ∙ ap (map_pages 0 (length L) L) (only p t) ∙ page_one))
+  granted r (missing e v p t h) = let here = only p t in cc page_one
+  granted r (already e v n p t h) = let here = only p t in cc page_one
   granted r (smaller e v n p t h) = absurd (omega arith)
   granted r (success e v h) = e
 
@@ -52,7 +46,7 @@ worked = record {
   size_of_one_word = refl;
   size_of_two_words = refl;
   built_too_high = λ held. refl;
-  built_below = λ held h. cond-false _ _ _ (le-ltb held 4 h);
+  built_below = λ held h. grind (arith, common_steps);
   one_request = one_request;
   refused_by_1 = refused_by_1;
 }

@@ -1,5 +1,5 @@
 -- The worked cases, each by its numbers.
-use Rattle.std.specs.Prelude.{◌≡◌, ℕ, ◌<◌, ◌≤◌, List, [], ◌∷◌, length, Ok, Err, slice_index}
+use Rattle.std.specs.Prelude.{◌≡◌, ℕ, ◌≤◌, List, [], ◌∷◌, length, All, Ok, Err}
 use Rattle.fault.specs.declared.AcceptError.TheVariants.{ArithmeticOverflow}
 use Rattle.host.specs.Pages.{accepting}
 use Rattle.host_models.specs.Map.{map_replies}
@@ -9,7 +9,7 @@ use Rattle.accept_memory.specs.Walks.{walk_answer, walk_requests, misaligned_at}
 
 -- every page of a map of the bytes L is pending
 abbrev pub AllPending : List ℕ → Type 0
-AllPending L = (i : ℕ) → i < length L → (1 ≤ slice_index L i) × (slice_index L i ≤ 3)
+AllPending L = All (λ b. (1 ≤ b) × (b ≤ 3)) L
 
 pub record Worked : Type 0 where
   -- a table for [0x40000000, 0x48000000) takes 32 bytes, and one for an address more takes 40

@@ -2,7 +2,7 @@
 ghost use Rattle.std.specs.Prelude.{◌≡◌};
 
 // What two words hold from `start` to `end` - 1: the first mark and the first gap.
-#[derive(Clone, Copy)]
+#[derive(Clone, Copy, Debug, PartialEq, Eq)]
 pub struct SearchCase {
     pub words: [u64; 2],
     pub start: u64,
@@ -12,7 +12,7 @@ pub struct SearchCase {
 }
 
 // Two words, and what they are once the units from `start` to `end` - 1 were set, or cleared.
-#[derive(Clone, Copy)]
+#[derive(Clone, Copy, Debug, PartialEq, Eq)]
 pub struct UpdateCase {
     pub words: [u64; 2],
     pub start: u64,
@@ -146,14 +146,14 @@ mod tests {
     #[test]
     fn parts(rt: HostRuntime) {
         let mut image = [7, 0, 0, 7];
-        bitmap::set_range_in(&mut image, 1, 3, 63, ONES);
+        bitmap::set_range_in(&mut image, 1..3, 63, ONES);
         assert_eq!(rt; image, [7, TOP, ONES, 7]);
-        bitmap::clear_range_in(&mut image, 1, 3, 0, 65);
+        bitmap::clear_range_in(&mut image, 1..3, 0, 65);
         assert_eq!(rt; image, [7, 0, ONES - 1, 7]);
-        bitmap::set_range_in(&mut image, 3, 1, 0, ONES);
-        bitmap::set_range_in(&mut image, 3, 5, 0, ONES);
-        bitmap::clear_range_in(&mut image, 2, 5, 0, ONES);
-        bitmap::clear_range_in(&mut image, 2, 2, 0, ONES);
+        bitmap::set_range_in(&mut image, 3..1, 0, ONES);
+        bitmap::set_range_in(&mut image, 3..5, 0, ONES);
+        bitmap::clear_range_in(&mut image, 2..5, 0, ONES);
+        bitmap::clear_range_in(&mut image, 2..2, 0, ONES);
         assert_eq!(rt; image, [7, 0, ONES - 1, 7]);
     }
 }

@@ -2,9 +2,9 @@
 #![tactic(auto)]
 
 ghost use Rattle.accept_memory.specs.Walks.{walk_answer, walk_requests};
-ghost use Rattle.cases.specs.Summary.{summary_of};
+ghost use Rattle.cases.specs.Summary.{refusal_of, summary_of};
 ghost use Rattle.cases.specs.Worked.{Worked};
-ghost use Rattle.fault.specs.Refusals.{told_by};
+ghost use Rattle.fault.specs.Refusals.{told, told_by};
 ghost use Rattle.host_models.specs.Cap.{cap_replies};
 ghost use Rattle.host_models.specs.Inject.{inject_replies};
 ghost use Rattle.host_models.specs.Map.{map_after, map_replies};
@@ -22,11 +22,9 @@ pub mod bitmaps;
 pub mod tables;
 
 // The list of worked cases holds.
-pub fn worked_cases() -> u8
+pub fn worked_cases()
     ensures { Worked }
-{
-    0
-}
+{}
 
 // Accepts [start, end) over a map of the caller's bytes. The bytes afterwards are those of a map that has received the
 // requests of the walk.
@@ -53,7 +51,7 @@ pub fn accept_under_layers(
     start: u64,
     end: u64,
 ) -> Result<u64, Fault>
-    ensures { told_by result ≡ walk_answer (cap_replies level.level (retry_replies count.count (inject_replies words.now (map_replies (shape.base / 4096) shape.count bytes.old)))) start end }
+    ensures { told_by result ≡ walk_answer (cap_replies level (retry_replies count (inject_replies words.now (map_replies (shape.base / 4096) shape.count bytes.old)))) start end }
 {
     let mut layers = Cap::new(
         level,
@@ -62,14 +60,31 @@ pub fn accept_under_layers(
     accept_memory(&mut layers, start, end)
 }
 
-// An answer as three numbers: the number of its refusal, 0 for success, its count, and the address of its fault.
-pub fn summary(answer: &Result<u64, Fault>) -> (u8, u64, u64)
+// A fault in short: the number of its refusal, its count and its address.
+#[derive(Clone, Copy, Debug, PartialEq, Eq)]
+pub struct Refusal {
+    pub number: u8,
+    pub count: u64,
+    pub address: u64,
+}
+
+impl From<Fault> for Refusal {
+    ghost from_gives = { λ f r. r ≡ refusal_of (told f) };
+
+    fn from(fault: Fault) -> Refusal {
+        Refusal {
+            number: fault.number(),
+            count: fault.count,
+            address: fault.address,
+        }
+    }
+}
+
+// An answer with its fault in short.
+pub fn summary(answer: &Result<u64, Fault>) -> Result<u64, Refusal>
     ensures { result ≡ summary_of (told_by answer.now) }
 {
-    match answer {
-        Ok(count) => (0, *count, 0),
-        Err(fault) => (fault.number(), fault.count, fault.address),
-    }
+    answer.map_err(Refusal::from)
 }
 
 #[cfg(test)]
@@ -82,9 +97,7 @@ mod tests {
         bytes: [u8; 8],
         start: u64,
         end: u64,
-        number: u8,
-        count: u64,
-        address: u64,
+        answer: Result<u64, Refusal>,
         after: [u8; 8],
     }
 
@@ -95,9 +108,7 @@ mod tests {
             bytes: [1; 8],
             start: 0x4000_0000,
             end: 0x4000_8000,
-            number: 0,
-            count: 8,
-            address: 0,
+            answer: Ok(8),
             after: [4; 8],
         },
         // an empty span asks nothing, aligned or not
@@ -105,18 +116,14 @@ mod tests {
             bytes: [1; 8],
             start: 0x4000_3001,
             end: 0x4000_3001,
-            number: 0,
-            count: 0,
-            address: 0,
+            answer: Ok(0),
             after: [1; 8],
         },
         Row {
             bytes: [1; 8],
             start: 0x4000_3000,
             end: 0x4000_2000,
-            number: 0,
-            count: 0,
-            address: 0,
+            answer: Ok(0),
             after: [1; 8],
         },
         // a start that is no multiple of 4096
@@ -124,9 +131,11 @@ mod tests {
             bytes: [1; 8],
             start: 0x4000_0800,
             end: 0x4000_2000,
-            number: 1,
-            count: 0,
-            address: 0x4000_0800,
+            answer: Err(Refusal {
+                number: 1,
+                count: 0,
+                address: 0x4000_0800,
+            }),
             after: [1; 8],
         },
         // an end that is none
@@ -134,9 +143,11 @@ mod tests {
             bytes: [1; 8],
             start: 0x4000_0000,
             end: 0x4000_1FFF,
-            number: 1,
-            count: 1,
-            address: 0x4000_1000,
+            answer: Err(Refusal {
+                number: 1,
+                count: 1,
+                address: 0x4000_1000,
+            }),
             after: [4, 1, 1, 1, 1, 1, 1, 1],
         },
         // accepted before
@@ -144,9 +155,7 @@ mod tests {
             bytes: [1, 4, 2, 3, 4, 1, 1, 1],
             start: 0x4000_0000,
             end: 0x4000_5000,
-            number: 0,
-            count: 5,
-            address: 0,
+            answer: Ok(5),
             after: [4, 4, 4, 4, 4, 1, 1, 1],
         },
         // an absent page, a byte that reads as absent, and a page behind the map
@@ -154,27 +163,33 @@ mod tests {
             bytes: [1, 1, 0, 1, 1, 1, 1, 1],
             start: 0x4000_0000,
             end: 0x4000_4000,
-            number: 5,
-            count: 3,
-            address: 0x4000_2000,
+            answer: Err(Refusal {
+                number: 5,
+                count: 3,
+                address: 0x4000_2000,
+            }),
             after: [4, 4, 0, 1, 1, 1, 1, 1],
         },
         Row {
             bytes: [1, 9, 1, 1, 1, 1, 1, 1],
             start: 0x4000_0000,
             end: 0x4000_4000,
-            number: 5,
-            count: 2,
-            address: 0x4000_1000,
+            answer: Err(Refusal {
+                number: 5,
+                count: 2,
+                address: 0x4000_1000,
+            }),
             after: [4, 9, 1, 1, 1, 1, 1, 1],
         },
         Row {
             bytes: [1; 8],
             start: 0x4000_7000,
             end: 0x4000_9000,
-            number: 5,
-            count: 2,
-            address: 0x4000_8000,
+            answer: Err(Refusal {
+                number: 5,
+                count: 2,
+                address: 0x4000_8000,
+            }),
             after: [1, 1, 1, 1, 1, 1, 1, 4],
         },
     ];
@@ -183,48 +198,43 @@ mod tests {
     fn walks(rt: HostRuntime) -> Result<(), Fail> {
         for row in &ROWS {
             let mut bytes = row.bytes;
-            let Ok(shape) = MapShape::new(0x4000_0000, 8) else {
-                return Err(Fail::new("the shape is refused"));
-            };
+            let shape = MapShape::new(0x4000_0000, 8)?;
             let answer = accept_in_bytes(shape, &mut bytes, row.start, row.end);
-            let (number, count, address) = summary(&answer);
-            assert_eq!(rt; number, row.number);
-            assert_eq!(rt; count, row.count);
-            assert_eq!(rt; address, row.address);
-            assert!(rt; bytes == row.after);
+            assert_eq!(rt; summary(&answer), row.answer);
+            assert_eq!(rt; bytes, row.after);
         }
         Ok(())
     }
 
-    // A page that is busy three times: repeats, refusal number and count.
-    const BUSY_ROWS: [(u8, u8, u64); 4] = [(0, 5, 1), (2, 5, 1), (3, 0, 2), (7, 0, 2)];
+    const STILL_BUSY: Refusal = Refusal {
+        number: 5,
+        count: 1,
+        address: 0x4000_0000,
+    };
+
+    // A first page that is busy three times: the repeats, and the answer of the walk.
+    const BUSY_ROWS: [(u8, Result<u64, Refusal>); 4] = [
+        (0, Err(STILL_BUSY)),
+        (2, Err(STILL_BUSY)),
+        (3, Ok(2)),
+        (7, Ok(2)),
+    ];
 
     #[test]
     fn busy_pages(rt: HostRuntime) -> Result<(), Fail> {
         let busy = TdCallError::TdxOperandBusy.status();
-        for (repeats, number, count) in BUSY_ROWS {
+        for (repeats, wanted) in BUSY_ROWS {
             let mut bytes = [1, 1];
-            let Ok(shape) = MapShape::new(0x4000_0000, 2) else {
-                return Err(Fail::new("the shape is refused"));
-            };
-            let Ok(retry) = RetryCount::new(repeats) else {
-                return Err(Fail::new("the repeats are refused"));
-            };
-            let Ok(cap) = CapLevel::new(2) else {
-                return Err(Fail::new("the cap is refused"));
-            };
             let answer = accept_under_layers(
-                shape,
+                MapShape::new(0x4000_0000, 2)?,
                 &[busy, busy, busy],
-                retry,
-                cap,
+                RetryCount::new(repeats)?,
+                CapLevel::new(2)?,
                 &mut bytes,
                 0x4000_0000,
                 0x4000_2000,
             );
-            let (told, counted, _) = summary(&answer);
-            assert_eq!(rt; told, number);
-            assert_eq!(rt; counted, count);
+            assert_eq!(rt; summary(&answer), wanted);
         }
         Ok(())
     }

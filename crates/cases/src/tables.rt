@@ -12,30 +12,25 @@ use efi_table::layout::{Range, required_size_for_range};
 pub fn size_row(start: u64, end: u64) -> Result<usize, u8>
     ensures { result ≡ numbered (size_asked start end) }
 {
-    match required_size_for_range(Range { start, end }) {
-        Ok(size) => Ok(size),
-        Err(error) => Err(error.number()),
-    }
+    required_size_for_range(Range { start, end }).map_err(|error| error.number())
 }
 
 // The length of the bitmap that building makes, or the number of the refusal.
 pub fn build_row(start: u64, end: u64, held: usize) -> Result<u64, u8>
     ensures { result ≡ length_in (building start end held) }
 {
-    match Header::for_coverage(Range { start, end }, held) {
-        Ok(header) => Ok(header.bitmap_size_bytes()),
-        Err(error) => Err(error.number()),
-    }
+    Header::for_coverage(Range { start, end }, held)
+        .map(|header| header.bitmap_size_bytes())
+        .map_err(|error| error.number())
 }
 
 // The length of the bitmap of the table that is found, or the number of the refusal.
 pub fn find_row(entries: &[u8], image: &[u64]) -> Result<u64, u8>
     ensures { result ≡ length_in (found entries.now image.now) }
 {
-    match find(entries, image) {
-        Ok(header) => Ok(header.bitmap_size_bytes()),
-        Err(error) => Err(error.number()),
-    }
+    find(entries, image)
+        .map(|header| header.bitmap_size_bytes())
+        .map_err(|error| error.number())
 }
 
 #[cfg(test)]

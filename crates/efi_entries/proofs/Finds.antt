@@ -1,12 +1,16 @@
 -- Finding accepts tables only, and refuses none.
 use Rattle.std.proofs.Common.{◌≡◌, ℕ, zero, suc, ◌+◌, ◌*◌, ◌/◌, ◌%◌, ◌^◌, ◌<◌, ◌≤◌, Bool, true, false, cond, not, ◌&&◌, eqb, ltb, List, [], ◌∷◌, length, get_or, take, drop, Some, None, Ok, Err, Option, Result, sym, refl, ap, ◌∙◌, subst, inl, inr, arith, length-drop, rules}
+use Rattle.std.specs.Int.{is_power_of_two}
+use Rattle.std.specs.List.{find}
+use Rattle.std.specs.Option.{option_map}
+use Rattle.efi_entries.specs.declared.Entry.{Entry}
 use Rattle.std.proofs.lemmas.List.{drop-drop, ext_get_or, get_or-drop, get_or-take, length-take-le}
 use Rattle.std.proofs.lemmas.Bool.{and_from, and_parts, cases_eq, cond-false, cond-true, eq-eqb, eqb-false, eqb-true, lt-ltb, le-ltb, ltb-true, ne_eqb, not_from_true}
 use Rattle.fault.specs.declared.AcceptError.{AcceptError}
 use Rattle.fault.specs.declared.AcceptError.TheVariants.{BadEntries}
-use Rattle.efi_table.specs.Shapes.{Shape, power_of_two, covered_end, bitmap_end}
+use Rattle.efi_table.specs.Shapes.{Shape, covered_end, bitmap_end}
 use Rattle.efi_table.specs.Images.{decoded_from, first_word, written}
-use Rattle.efi_entries.specs.Entries.{little_endian, table_guid, guid_of, pointer_of, first_of, first_pointer, pointing, pointer_in, may_lie, whole, table_at, found}
+use Rattle.efi_entries.specs.Entries.{little_endian, table_guid, guid_of, pointer_of, entries, entries_of, first_pointer, pointing, pointer_in, may_lie, whole, table_at, found}
 use Rattle.efi_entries.specs.Tables.{Bytes, Finds, Table, entry_at, guid}
 use Rattle.efi_table.proofs.Powers.{power_is, power_of}
 
@@ -57,6 +61,10 @@ guid_is xs b l e =
 
 -- ---- the first match
 
+-- the pointer of the first of n entries whose GUID is the table's
+abbrev first_of : ℕ → List ℕ → Option ℕ
+first_of n bs = option_map (λ (e : Entry). e.pointer) (find (λ e. eqb e.guid table_guid) (entries_of n bs))
+
 record First (n : ℕ) (bs : List ℕ) (p : ℕ) : Type 0 where
   entry : ℕ
   there : entry < n
@@ -67,19 +75,20 @@ record First (n : ℕ) (bs : List ℕ) (p : ℕ) : Type 0 where
 next_entry : (j : ℕ) (bs : List ℕ) → entry_at j (drop 24 bs) ≡ entry_at (suc j) bs
 next_entry j bs = let e : 24 + 24 * j ≡ 24 * suc j = omega arith in drop-drop (24 * j) 24 bs ∙ ap (λ (n : ℕ). drop n bs) e
 
-some_is : (a b : ℕ) → ◌≡◌ {A = Option ℕ} (Some a) (Some b) → a ≡ b
-some_is a b e = cc
-
-no_some : (a : ℕ) → ◌≡◌ {A = Option ℕ} None (Some a) → ⊥
-no_some a h = let z : ◌≡◌ {A = ℕ} 0 1 = cc in omega arith
+first_step : (n : ℕ) (bs : List ℕ) → first_of (suc n) bs ≡ cond (eqb (guid_of bs) table_guid) (Some (pointer_of bs)) (first_of n (drop 24 bs))
+first_step n bs = by (eqb (guid_of bs) table_guid)
+  where
+    by : (t : Bool) → option_map (λ (e : Entry). e.pointer) (cond t (Some (record { guid = guid_of bs; pointer = pointer_of bs })) (find (λ e. eqb e.guid table_guid) (entries_of n (drop 24 bs)))) ≡ cond t (Some (pointer_of bs)) (first_of n (drop 24 bs))
+    by true = refl
+    by false = refl
 
 first_is : (n : ℕ) (bs : List ℕ) (p : ℕ) → first_of n bs ≡ Some p → First n bs p
-first_is zero bs p e = absurd (no_some p e)
-first_is (suc n) bs p e = by (eqb (guid_of bs) table_guid) refl e (first_is n (drop 24 bs) p)
+first_is zero bs p e = cc
+first_is (suc n) bs p e = by (eqb (guid_of bs) table_guid) refl (sym (first_step n bs) ∙ e) (first_is n (drop 24 bs) p)
   where
     by : (t : Bool) → eqb (guid_of bs) table_guid ≡ t → cond t (Some (pointer_of bs)) (first_of n (drop 24 bs)) ≡ Some p → (first_of n (drop 24 bs) ≡ Some p → First n (drop 24 bs) p)
         → First (suc n) bs p
-    by true t e f = record { entry = 0; there = omega arith; here = eqb-true _ _ t; none = λ j h. absurd (omega arith); pointer = sym (some_is _ _ e) }
+    by true t e f = record { entry = 0; there = omega arith; here = eqb-true _ _ t; none = λ j h. absurd (omega arith); pointer = cc }
     by false t e f =
         let g = f e in
         record {
@@ -98,9 +107,10 @@ first_at :
     (n j : ℕ) (bs : List ℕ) → j < n → guid_of (entry_at j bs) ≡ table_guid → ((i : ℕ) → i < j → guid_of (entry_at i bs) ≡ table_guid → ⊥)
     → first_of n bs ≡ Some (pointer_of (entry_at j bs))
 first_at zero j bs h m o = absurd (omega arith)
-first_at (suc n) zero bs h m o = cond-true _ _ _ (eq-eqb _ _ m)
+first_at (suc n) zero bs h m o = first_step n bs ∙ cond-true _ _ _ (eq-eqb _ _ m)
 first_at (suc n) (suc j) bs h m o =
-    cond-false _ _ _ (ne_eqb _ _ (o 0 (omega arith)))
+    first_step n bs
+    ∙ cond-false _ _ _ (ne_eqb _ _ (o 0 (omega arith)))
     ∙ first_at n j (drop 24 bs) (omega arith) (ap guid_of (next_entry j bs) ∙ m) (λ i l e. o (suc i) (omega arith) (ap guid_of (sym (next_entry i bs)) ∙ e))
     ∙ ap (λ (l : List ℕ). Some (pointer_of l)) (next_entry j bs)
 
@@ -118,7 +128,7 @@ pointed bs p (Some q) f e = search rules
 record Decoded (placed : Bool) (img : List ℕ) (s : Shape) : Type 0 where
   may : placed ≡ true
   words : written s ≡ take 3 img
-  power : power_of_two s.unit ≡ true
+  power : is_power_of_two s.unit ≡ true
   some : 0 < s.length
   whole : s.length % 8 ≡ 0
   ends : covered_end s < 2 ^ 64
@@ -140,11 +150,16 @@ lies : (img : List ℕ) (r : Result ℕ AcceptError) (s : Shape) → table_at im
 lies img (Err e) s h = search rules
 lies img (Ok p) s h = let w = whole_is img _ s h in record { pointer = p; is = refl; header = w.0; held = w.1 }
 
+-- the first match is that of all the entries
+first_among : (bs : List ℕ) → first_pointer bs ≡ first_of (length bs / 24) bs
+unfolding entries
+first_among bs = refl
+
 sound : (bs img : List ℕ) (s : Shape) → Bytes bs → found bs img ≡ Ok s → Table bs img s
 sound bs img s b e =
     let l = lies img (pointer_in bs) s e in
     let q = pointed bs l.pointer (first_pointer bs) refl l.is in
-    let f = first_is (length bs / 24) bs l.pointer q.first in
+    let f = first_is (length bs / 24) bs l.pointer (sym (first_among bs) ∙ q.first) in
     let d = decoded_is (may_lie l.pointer) img s l.header in
     let m = and_parts (eqb (l.pointer % 8) 0) _ d.may in
     let k = power_of s.unit d.power in
@@ -161,7 +176,7 @@ sound bs img s b e =
       aligned = ap (λ (n : ℕ). n % 8) (sym p) ∙ eqb-true _ _ m.0;
       below = omega (arith, ltb-true _ _ m.1);
       words = d.words;
-      power = record { exponent = k.0; is = k.1 };
+      power = k;
       some = d.some;
       whole = d.whole;
       ends = d.ends;
@@ -172,7 +187,7 @@ word_is : (img : List ℕ) (s : Shape) (i : ℕ) → i < 3 → written s ≡ tak
 word_is img s i h e = sym (get_or-take 3 img i 0 h) ∙ ap (λ (l : List ℕ). get_or l i 0) (sym e)
 
 decoded_from_lem :
-    (img : List ℕ) (s : Shape) → 3 ≤ length img → power_of_two s.unit ≡ true → 0 < s.length → s.length % 8 ≡ 0 → covered_end s < 2 ^ 64
+    (img : List ℕ) (s : Shape) → 3 ≤ length img → is_power_of_two s.unit ≡ true → 0 < s.length → s.length % 8 ≡ 0 → covered_end s < 2 ^ 64
     → get_or img 0 0 ≡ first_word s.unit → get_or img 1 0 ≡ s.base → get_or img 2 0 ≡ s.length → decoded_from true img ≡ Ok s
 decoded_from_lem img s long power some whole ends a b c = search rules
 
@@ -181,13 +196,13 @@ complete bs img s y t =
     let p : ℕ = pointer_of (entry_at t.entry bs) in
     let long : (j : ℕ) → j < t.entry → 16 ≤ length (entry_at j bs) = λ j h. omega (arith, length-drop (24 * j) bs, t.there) in
     let f : first_pointer bs ≡ Some p =
-    first_at (length bs / 24) t.entry bs (omega (arith, t.there)) (guid_number _ t.match)
+    first_among bs ∙ first_at (length bs / 24) t.entry bs (omega (arith, t.there)) (guid_number _ t.match)
     (λ j h m. t.first j h (guid_is _ (entry_bytes j bs y) (long j h) m)) in
     let points : pointer_in bs ≡ Ok p =
     cond-false _ _ _ (not_from_true _ (eq-eqb _ _ t.entries)) ∙ ap pointing f ∙ cond-false _ _ _ (ne_eqb p 0 (omega (arith, t.present))) in
     let placed : may_lie p ≡ true = and_from _ _ (eq-eqb _ _ t.aligned) (lt-ltb _ _ t.below) in
     let word : (i : ℕ) → i < 3 → get_or img i 0 ≡ get_or (written s) i 0 = λ i h. word_is img s i h t.words in
-    let power : power_of_two s.unit ≡ true = ap power_of_two t.power.is ∙ power_is t.power.exponent in
+    let power : is_power_of_two s.unit ≡ true = ap is_power_of_two t.power.1 ∙ power_is t.power.0 in
     let reads : decoded_from true img ≡ Ok s =
     decoded_from_lem img s (omega (arith, t.held)) power t.some t.whole t.ends (word 0 (omega arith)) (word 1 (omega arith)) (word 2 (omega arith)) in
     ap (table_at img) points ∙ ap (λ (b : Bool). whole img (decoded_from b img)) placed ∙ ap (whole img) reads

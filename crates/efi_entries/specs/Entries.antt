@@ -1,5 +1,8 @@
 -- The entries of UEFI's configuration table: 24 bytes each, sixteen of a GUID and then eight of a pointer.
-use Rattle.std.specs.Prelude.{◌≡◌, ℕ, zero, suc, ◌+◌, ◌*◌, ◌/◌, ◌%◌, ◌^◌, ◌≤◌, Bool, cond, not, ◌&&◌, List, length, drop, Some, None, Ok, Err, Option, Result, ◌==◌, nat_lt, slice_index}
+use Rattle.std.specs.Prelude.{ℕ, zero, suc, ◌+◌, ◌*◌, ◌/◌, ◌%◌, ◌^◌, Bool, if◌then◌else◌, not, ◌&&◌, List, [], ◌∷◌, length, drop, Some, None, Ok, Err, Option, Result, ◌==◌, nat_lt, slice_index}
+use Rattle.std.specs.List.{find}
+use Rattle.std.specs.Option.{option_map}
+use Rattle.efi_entries.specs.declared.Entry.{Entry}
 use Rattle.fault.specs.declared.AcceptError.{AcceptError}
 use Rattle.fault.specs.declared.AcceptError.TheVariants.{WrongImage, BadEntries, NoTable}
 use Rattle.efi_table.specs.Shapes.{Shape, bitmap_end}
@@ -20,32 +23,28 @@ guid_of bs = little_endian 16 0 bs
 abbrev pub pointer_of : List ℕ → ℕ
 pointer_of bs = little_endian 8 16 bs
 
--- the entry that bytes begin with, by the halves of its GUID and its pointer, and the bytes behind it
-pub record Entry (bs : List ℕ) (low high p : ℕ) (rest : List ℕ) : Type 0 where
-  pub long : 24 ≤ length bs
-  pub guid : low + 2 ^ 64 * high ≡ guid_of bs
-  pub pointer : p ≡ pointer_of bs
-  pub behind : rest ≡ drop 24 bs
+-- n entries that bytes begin with, and all the entries that they hold
+abbrev pub entries_of : ℕ → List ℕ → List Entry
+entries_of zero bs = []
+entries_of (suc n) bs = record { guid = guid_of bs; pointer = pointer_of bs } ∷ entries_of n (drop 24 bs)
 
--- the pointer p of an entry whose GUID is g as such a number, if that is the table's
-abbrev pub if_table : ℕ → ℕ → Option ℕ
-if_table g p = cond (g == table_guid) (Some p) None
+unfoldable pub entries : List ℕ → List Entry
+entries bs = entries_of (length bs / 24) bs
 
--- the pointer of the first of n entries whose GUID is the table's
-abbrev pub first_of : ℕ → List ℕ → Option ℕ
-first_of zero bs = None
-first_of (suc n) bs = cond (guid_of bs == table_guid) (Some (pointer_of bs)) (first_of n (drop 24 bs))
+-- the first entry whose GUID is the table's, and its pointer
+abbrev pub table_entry : List ℕ → Option Entry
+table_entry bs = find (λ e. e.guid == table_guid) (entries bs)
 
 abbrev pub first_pointer : List ℕ → Option ℕ
-first_pointer bs = first_of (length bs / 24) bs
+first_pointer bs = option_map (λ (e : Entry). e.pointer) (table_entry bs)
 
 -- null is no table
 abbrev pub pointing : Option ℕ → Result ℕ AcceptError
 pointing None = Err NoTable
-pointing (Some p) = cond (p == 0) (Err NoTable) (Ok p)
+pointing (Some p) = if p == 0 then Err NoTable else Ok p
 
 abbrev pub pointer_in : List ℕ → Result ℕ AcceptError
-pointer_in bs = cond (not (length bs % 24 == 0)) (Err BadEntries) (pointing (first_pointer bs))
+pointer_in bs = if not (length bs % 24 == 0) then Err BadEntries else pointing (first_pointer bs)
 
 -- may a table lie at a pointer: the bitmap behind its header begins below 2 ^ 64, at a multiple of 8
 abbrev pub may_lie : ℕ → Bool
@@ -53,7 +52,7 @@ may_lie p = p % 8 == 0 && nat_lt (p + 24) (2 ^ 64)
 
 -- a table whose bitmap the image holds
 abbrev pub whole : List ℕ → Result Shape AcceptError → Result Shape AcceptError
-whole img (Ok s) = cond (nat_lt (length img) (bitmap_end s)) (Err WrongImage) (Ok s)
+whole img (Ok s) = if nat_lt (length img) (bitmap_end s) then Err WrongImage else Ok s
 whole img (Err e) = Err e
 
 abbrev pub table_at : List ℕ → Result ℕ AcceptError → Result Shape AcceptError

@@ -1,8 +1,8 @@
 -- When entries and an image name a table.
 use Rattle.std.specs.Prelude.{◌≡◌, ℕ, ◌+◌, ◌*◌, ◌%◌, ◌^◌, ◌<◌, ◌≤◌, List, [], ◌∷◌, length, take, drop, Ok, ◌≢◌, slice_index}
+use Rattle.std.specs.Int.{IsPowerOfTwo}
 use Rattle.efi_table.specs.Shapes.{Shape, covered_end, bitmap_end}
 use Rattle.efi_table.specs.Images.{written}
-use Rattle.efi_table.specs.Laws.{Power}
 use Rattle.efi_entries.specs.Entries.{pointer_of, found}
 
 -- the GUID of the table
@@ -25,7 +25,7 @@ pub record Table (bs img : List ℕ) (s : Shape) : Type 0 where
   pub aligned : pointer_of (entry_at entry bs) % 8 ≡ 0
   pub below : pointer_of (entry_at entry bs) + 24 < 2 ^ 64
   pub words : written s ≡ take 3 img
-  pub power : Power s.unit
+  pub power : IsPowerOfTwo s.unit
   pub some : 0 < s.length
   pub whole : s.length % 8 ≡ 0
   pub ends : covered_end s < 2 ^ 64

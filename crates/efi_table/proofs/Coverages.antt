@@ -1,8 +1,7 @@
 -- The coverage of a list of ranges, one range after another.
-use Rattle.std.proofs.Common.{◌≡◌, ℕ, zero, suc, ◌+◌, ◌-◌, ◌^◌, ◌<◌, ◌≤◌, min, max, Bool, true, false, cond, ◌||◌, eqb, ltb, leb, ◌⊎◌, List, [], ◌∷◌, length, drop, Ok, Err, Result, sym, refl, ap, ◌∙◌, ap₂, inl, inr, arith}
+use Rattle.std.proofs.Common.{◌≡◌, ℕ, zero, suc, ◌+◌, ◌-◌, ◌^◌, ◌<◌, ◌≤◌, min, max, Bool, true, false, cond, ◌||◌, eqb, ltb, leb, ◌⊎◌, List, [], ◌∷◌, length, drop, Ok, Err, sym, refl, ap, ◌∙◌, ap₂, inl, inr, arith}
 use Rattle.std.proofs.lemmas.List.{at_drop_more}
 use Rattle.std.proofs.lemmas.Bool.{cases_lt, cond-false, eqb-false, le-ltb, leb-false, lt-leb, ltb-false, ne_eqb, or_from, or_parts}
-use Rattle.fault.specs.declared.AcceptError.{AcceptError}
 use Rattle.fault.specs.declared.AcceptError.TheVariants.{OutOfBounds}
 use Rattle.efi_table.specs.declared.layout.Range.{Range}
 use Rattle.efi_table.specs.Layouts.{covering, range}
@@ -24,12 +23,6 @@ record Spans (low high : ℕ) (rs : List Range) (r : Range) : Type 0 where
   each : (i : ℕ) → i < length rs → (r.start ≤ (range_at rs i).start) × ((range_at rs i).end ≤ r.end)
   lowest : (r.start ≡ low) ⊎ ((i : ℕ) × (i < length rs) × ((range_at rs i).start ≡ r.start))
   highest : (r.end ≡ high) ⊎ ((i : ℕ) × (i < length rs) × ((range_at rs i).end ≡ r.end))
-
-ok_is : (a b : Range) → ◌≡◌ {A = Result Range AcceptError} (Ok a) (Ok b) → a ≡ b
-ok_is a b e = cc
-
-no_err : {A : Type 0} (e : AcceptError) (a : A) → ◌≡◌ {A = Result A AcceptError} (Err e) (Ok a) → ⊥
-no_err e a h = let z : ◌≡◌ {A = ℕ} 0 1 = cc in omega arith
 
 module _ (low high : ℕ) (q : Range) (rs : List Range) (r : Range) where
   fits : q.start < q.end → Spans (min low q.start) (max high q.end) rs r → Spans low high (q ∷ rs) r
@@ -62,7 +55,7 @@ module _ (low high : ℕ) (q : Range) (rs : List Range) (r : Range) where
 
 spans : (low high : ℕ) (rs : List Range) (r : Range) → covering low high rs ≡ Ok r → Spans low high rs r
 spans low high [] r e =
-    let i : range low high ≡ r = ok_is _ _ e in
+    let i : range low high ≡ r = cc in
     let l : low ≡ r.start = ap (λ (x : Range). x.start) i in
     let h : high ≡ r.end = ap (λ (x : Range). x.end) i in
     record { filled = λ i h. absurd (omega arith); below = omega arith; above = omega arith; each = λ i h. absurd (omega arith); lowest = inl (omega arith); highest = inl (omega arith) }
@@ -70,7 +63,7 @@ spans low high (q ∷ rs) r e = by (leb q.end q.start) refl e (spans (min low q.
   where
     by : (t : Bool) → leb q.end q.start ≡ t → cond t (Err OutOfBounds) (covering (min low q.start) (max high q.end) rs) ≡ Ok r
         → (covering (min low q.start) (max high q.end) rs ≡ Ok r → Spans (min low q.start) (max high q.end) rs r) → Spans low high (q ∷ rs) r
-    by true t e s = absurd (no_err _ _ e)
+    by true t e s = cc
     by false t e s = fits low high q rs r (leb-false _ _ t) (s e)
 
 covering_given : (low high : ℕ) (rs : List Range) → ((i : ℕ) → i < length rs → (range_at rs i).start < (range_at rs i).end) → (r : Range) × (covering low high rs ≡ Ok r)
@@ -84,7 +77,7 @@ module _ (rs : List Range) where
   bad = eqb (length rs) 0 || ltb 1024 (length rs)
 
   covered : ((i : ℕ) → (range_at rs i).end < 2 ^ 64) → (r : Range) (t : Bool) → bad ≡ t → cond t (Err OutOfBounds) (covering (2 ^ 64 - 1) 0 rs) ≡ Ok r → Listed rs × Covers rs r
-  covered a r true t e = absurd (no_err _ _ e)
+  covered a r true t e = cc
   covered a r false t e =
       let p = or_parts (eqb (length rs) 0) (ltb 1024 (length rs)) t in
       let some : 0 < length rs = omega (arith, eqb-false _ _ p.0) in

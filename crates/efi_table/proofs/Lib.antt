@@ -1,4 +1,3 @@
 pub mod Powers
 pub mod Coverages
-pub mod Ends
 pub mod Overlaps

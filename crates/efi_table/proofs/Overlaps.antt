@@ -1,17 +1,16 @@
 -- An overlap tells the units that a window touches.
-use Rattle.std.proofs.Common.{◌≡◌, ℕ, ◌+◌, ◌-◌, ◌*◌, ◌/◌, ◌%◌, ◌<◌, ◌≤◌, max, Bool, true, false, cond, ltb, Some, None, refl, inl, inr, mul-le-mul_right, div-lt_iff_lt-mul, add-mul, one-mul, div-add-mod', le-div_iff_mul-le, arith}
+use Rattle.std.proofs.Common.{◌≡◌, ℕ, ◌+◌, ◌-◌, ◌*◌, ◌/◌, ◌%◌, ◌<◌, ◌≤◌, max, Bool, true, false, cond, ltb, Some, None, Option, sym, subst, refl, inl, inr, mul-le-mul_right, div-lt_iff_lt-mul, add-mul, one-mul, div-add-mod', le-div_iff_mul-le, arith}
+use Rattle.std.specs.Int.{div_ceil}
+use Rattle.std.proofs.Math.Nat.{lt_of_mul-lt-mul_right}
 use Rattle.std.proofs.lemmas.Bool.{cases_eq, cases_lt, ltb-false, ltb-true}
-use Rattle.efi_table.specs.Shapes.{Shape, quotient_up, unit_at, units_of, window_low, window_high, overlap_of}
+use Rattle.efi_table.specs.Shapes.{Shape, unit_at, units_of, window_low, window_high, overlap_of}
 use Rattle.efi_table.specs.Laws.{Overlaps, Touched}
 
 one_more : (k u : ℕ) → (k + 1) * u ≡ k * u + u
 one_more k u = omega (arith, add-mul k 1 u, one-mul u)
 
-times_less : (k n u : ℕ) → k * u < n * u → k < n
-times_less k n u h = elim (cases_lt k n) [ inl l ↦ l | inr l ↦ absurd (omega (arith, mul-le-mul_right u l)) ]
-
 -- k units are fewer than the units of x addresses exactly if they hold less than x
-up_below : (x u k : ℕ) → 0 < u → k < quotient_up x u → k * u < x
+up_below : (x u k : ℕ) → 0 < u → k < div_ceil x u → k * u < x
 up_below x u k p h =
     let d = div-add-mod' x u in
     elim (cases_eq (x % u) 0) [
@@ -21,11 +20,11 @@ up_below x u k p h =
       | inr z ↦ let m : k * u ≤ x / u * u = mul-le-mul_right u (omega arith) in omega (arith, d)
     ]
 
-below_up : (x u k : ℕ) → 0 < u → k * u < x → k < quotient_up x u
+below_up : (x u k : ℕ) → 0 < u → k * u < x → k < div_ceil x u
 below_up x u k p h =
     let d = div-add-mod' x u in
     elim (cases_eq (x % u) 0) [
-      | inl z ↦ omega (arith, times_less k (x / u) u (omega (arith, d)))
+      | inl z ↦ let m : k < x / u = lt_of_mul-lt-mul_right u (omega (arith, d)) in omega arith
       | inr z ↦ let m : k ≤ x / u = (le-div_iff_mul-le {k = u} {x = k} {y = x} p).1 (omega arith) in omega arith
     ]
 
@@ -36,38 +35,38 @@ module _ (s : Shape) (from to : ℕ) (p : 0 < s.unit) where
   abbrev high : ℕ
   high = window_high s to
 
-  all_in : (k : ℕ) → k < units_of s → Touched s k from to → (low < high) × ((low - s.base) / s.unit ≤ k) × (k < quotient_up (high - s.base) s.unit)
+  all_in : (k : ℕ) → k < units_of s → Touched s k from to → (low < high) × ((low - s.base) / s.unit ≤ k) × (k < div_ceil (high - s.base) s.unit)
   all_in k h t =
       let u : ℕ = s.unit in
       let next = one_more k u in
       let up : (k + 1) * u ≤ units_of s * u = mul-le-mul_right u (omega arith) in
       let l : low < high = omega (arith, t.after, t.before, t.low, t.high) in
       let f : (low - s.base) / u < k + 1 = (div-lt_iff_lt-mul {k = u} {x = low - s.base} {y = k + 1} p).1 (omega (arith, t.after, t.low, t.high)) in
-      let g : k < quotient_up (high - s.base) u = below_up (high - s.base) u k p (omega (arith, t.before, t.low, t.high)) in
+      let g : k < div_ceil (high - s.base) u = below_up (high - s.base) u k p (omega (arith, t.before, t.low, t.high)) in
       (l, omega arith, g)
 
-  only_in : (k : ℕ) → low < high → (low - s.base) / s.unit ≤ k → k < quotient_up (high - s.base) s.unit → (k < units_of s) × Touched s k from to
+  only_in : (k : ℕ) → low < high → (low - s.base) / s.unit ≤ k → k < div_ceil (high - s.base) s.unit → (k < units_of s) × Touched s k from to
   only_in k l f g =
       let u : ℕ = s.unit in
       let next = one_more k u in
       let m : low - s.base < (k + 1) * u = (div-lt_iff_lt-mul {k = u} {x = low - s.base} {y = k + 1} p).0 (omega arith) in
       let n : k * u < high - s.base = up_below (high - s.base) u k p g in (
-        times_less k (units_of s) u (omega arith),
+        lt_of_mul-lt-mul_right u (omega arith),
         record { address = max low (unit_at s k); after = omega arith; before = omega arith; low = omega arith; high = omega arith },
       )
 
-  some_in : low < high → ((low - s.base) / s.unit < quotient_up (high - s.base) s.unit) × (quotient_up (high - s.base) s.unit ≤ units_of s)
+  some_in : low < high → ((low - s.base) / s.unit < div_ceil (high - s.base) s.unit) × (div_ceil (high - s.base) s.unit ≤ units_of s)
   some_in l =
       let u : ℕ = s.unit in
       let x : ℕ = high - s.base in
       let y : ℕ = low - s.base in
       let f : y / u * u ≤ y = omega (arith, div-add-mod' y u) in
-      let g : y / u < quotient_up x u = below_up x u (y / u) p (omega arith) in
-      let w : quotient_up x u ≤ units_of s =
-      elim (cases_lt (units_of s) (quotient_up x u)) [ inl h ↦ absurd (omega (arith, up_below x u (units_of s) p h)) | inr h ↦ h ] in
+      let g : y / u < div_ceil x u = below_up x u (y / u) p (omega arith) in
+      let w : div_ceil x u ≤ units_of s =
+      elim (cases_lt (units_of s) (div_ceil x u)) [ inl h ↦ absurd (omega (arith, up_below x u (units_of s) p h)) | inr h ↦ h ] in
       (g, w)
 
-  by : (t : Bool) → ltb low high ≡ t → Overlaps s from to (cond t (Some ((low - s.base) / s.unit, quotient_up (high - s.base) s.unit, s.unit)) None)
+  by : (t : Bool) → ltb low high ≡ t → Overlaps s from to (cond t (Some ((low - s.base) / s.unit, div_ceil (high - s.base) s.unit, s.unit)) None)
   by true t =
       let l = ltb-true low high t in
       record {
@@ -84,3 +83,6 @@ module _ (s : Shape) (from to : ℕ) (p : 0 < s.unit) where
 
   pub overlap_law : Overlaps s from to (overlap_of s from to)
   overlap_law = by (ltb low high) refl
+
+  pub overlap_is : (o : Option (ℕ × ℕ × ℕ)) → o ≡ overlap_of s from to → Overlaps s from to o
+  overlap_is o e = subst (Overlaps s from to) (sym e) overlap_law

@@ -1,15 +1,14 @@
 -- What the definitions come to, in the words of the format.
 use Rattle.std.specs.Prelude.{◌≡◌, ℕ, ◌+◌, ◌*◌, ◌^◌, ◌<◌, ◌≤◌, true, List, ◌++◌, length, take, IfSome, Some, None, Ok, Option, slice_index_or}
-use Rattle.efi_table.specs.declared.header.Header.{Header}
+use Rattle.std.specs.Int.{IsPowerOfTwo, is_power_of_two}
 use Rattle.efi_table.specs.declared.layout.Range.{Range}
-use Rattle.efi_table.specs.Shapes.{Shape, power_of_two, units_of, unit_at, covered_end}
+use Rattle.efi_table.specs.Shapes.{Shape, IsHeader, units_of, unit_at, covered_end}
 use Rattle.efi_table.specs.Images.{written, header_in}
 use Rattle.efi_table.specs.Layouts.{range, coverage_of, size_asked, building}
-use Rattle.efi_table.specs.Views.{shape_of}
 
 -- A header that is written is read back, and one that is read is written back.
 pub record RoundTrips : Type 0 where
-  pub back : (h : Header) (rest : List ℕ) → header_in (written (shape_of h) ++ rest) ≡ Ok (shape_of h)
+  pub back : (s : Shape) (rest : List ℕ) → IsHeader s → header_in (written s ++ rest) ≡ Ok s
   pub forth : (img : List ℕ) (s : Shape) → header_in img ≡ Ok s → written s ≡ take 3 img
 
 -- some address lies in unit k and in the window
@@ -66,11 +65,7 @@ pub record Built (from to : ℕ) (s : Shape) : Type 0 where
 abbrev pub Builds : Type 0
 Builds = (from to held : ℕ) (s : Shape) → building from to held ≡ Ok s → Built from to s
 
-pub record Power (n : ℕ) : Type 0 where
-  pub exponent : ℕ
-  pub is : n ≡ 2 ^ exponent
-
 -- The powers of two, and they alone, have one bit set.
 pub record Powers : Type 0 where
-  pub only : (n : ℕ) → power_of_two n ≡ true → Power n
-  pub all : (k : ℕ) → power_of_two (2 ^ k) ≡ true
+  pub only : (n : ℕ) → is_power_of_two n ≡ true → IsPowerOfTwo n
+  pub all : (k : ℕ) → is_power_of_two (2 ^ k) ≡ true

@@ -1,5 +1,4 @@
 pub mod Shapes
 pub mod Images
 pub mod Layouts
-pub mod Views
 pub mod Laws

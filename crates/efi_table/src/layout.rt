@@ -1,16 +1,37 @@
 // How large a table is: ranges of addresses, their coverage, and the words of a bitmap for it.
-ghost use Rattle.std.specs.Prelude.{◌≡◌, ◌-◌, ◌^◌};
+ghost use Rattle.std.specs.Prelude.{◌≡◌, ◌-◌, ◌^◌, nat_le};
 ghost use Rattle.efi_table.specs.Layouts.{address_up, aligned_down, coverage_of, covering, size_asked, size_over, words_asked};
 ghost use Rattle.efi_table.specs.Laws.{Builds, Coverages};
 
 use fault::AcceptError;
 
 // The addresses from start up to the one before end.
-#[derive(Clone, Copy)]
+#[derive(Clone, Copy, Debug, PartialEq, Eq)]
 pub struct Range {
     pub start: u64,
     pub end: u64,
 }
+
+impl Range {
+    // Has the range no address?
+    pub(crate) fn is_empty(self) -> bool
+        ensures { result ≡ nat_le self.end self.start }
+    {
+        self.end <= self.start
+    }
+}
+
+// The bits of a byte: a byte of a bitmap has the marks of as many units.
+pub(crate) const BYTE_BITS: u64 = 8;
+
+// The bytes of a word.
+pub(crate) const WORD_BYTES: u64 = 8;
+
+// The words of a header, which lie before the bitmap.
+pub(crate) const HEADER_WORDS: u64 = 3;
+
+// The bytes of a header.
+pub const HEADER_SIZE: u64 = HEADER_WORDS * WORD_BYTES;
 
 // The unit size of a table that is built.
 pub const UNIT_SIZE: u64 = 0x20_0000;
@@ -42,33 +63,26 @@ pub fn align_up(address: u64, align: u64) -> Option<u64>
 fn covering_range(ranges: &[Range]) -> Result<Range, AcceptError>
     ensures { result ≡ covering (2 ^ 64 - 1) 0 ranges.now }
 {
-    let mut low = u64::MAX;
-    let mut high: u64 = 0;
+    let mut covered = Range {
+        start: u64::MAX,
+        end: 0,
+    };
     for range in ranges {
-        if range.end <= range.start {
+        if range.is_empty() {
             return Err(AcceptError::OutOfBounds);
         }
-        low = low.min(range.start);
-        high = high.max(range.end);
+        covered.start = covered.start.min(range.start);
+        covered.end = covered.end.max(range.end);
     }
-    Ok(Range {
-        start: low,
-        end: high,
-    })
+    Ok(covered)
 }
 
 // The lowest start and the highest end of the ranges of a list. Refuses a list without ranges, with too many, or with an
 // empty one.
+#[tactic(auto, using(crate::proofs::Coverages::coverages))]
 pub fn min_max_from_ranges(ranges: &[Range]) -> Result<Range, AcceptError>
     ensures coverage { result ≡ coverage_of ranges.now }
     ensures covers { Coverages ranges.now }
-{
-    listed_coverage(ranges)
-}
-
-// Computes the answer of `min_max_from_ranges`, whose contract adds what it means.
-fn listed_coverage(ranges: &[Range]) -> Result<Range, AcceptError>
-    ensures { result ≡ coverage_of ranges.now }
 {
     if ranges.is_empty() || ranges.len() > MOST_RANGES {
         return Err(AcceptError::OutOfBounds);
@@ -80,7 +94,7 @@ fn listed_coverage(ranges: &[Range]) -> Result<Range, AcceptError>
 pub(crate) fn bitmap_words(coverage: Range) -> Result<u64, AcceptError>
     ensures { result ≡ words_asked coverage.start coverage.end }
 {
-    if coverage.start >= coverage.end {
+    if coverage.is_empty() {
         return Err(AcceptError::OutOfBounds);
     }
     if coverage.end > HIGHEST_END {
@@ -88,7 +102,7 @@ pub(crate) fn bitmap_words(coverage: Range) -> Result<u64, AcceptError>
     }
     let end = coverage.end.next_multiple_of(UNIT_SIZE);
     let units = (end - align_down(coverage.start, UNIT_SIZE)) / UNIT_SIZE;
-    Ok(units.div_ceil(64))
+    Ok(units.div_ceil(WORD_BYTES * BYTE_BITS))
 }
 
 // The bytes of the image of a table for a coverage.
@@ -97,7 +111,7 @@ pub fn required_size_for_range(coverage: Range) -> Result<usize, AcceptError>
     ensures least { Builds }
 {
     let words = bitmap_words(coverage)?;
-    Ok(24 + 8 * words as usize)
+    Ok((HEADER_SIZE + WORD_BYTES * words) as usize)
 }
 
 // The bytes of the image of a table for a list of ranges.

@@ -1,13 +1,17 @@
 // Why a call refuses, and where: the one error and the one fault of every layer.
 #![tactic(auto)]
 
-ghost use Rattle.fault.specs.Refusals.{ToldWhole, number, told};
-ghost use Rattle.std.specs.Prelude.{◌≡◌};
+ghost use Rattle.fault.specs.declared.AcceptError.TheVariants.{TdCall};
+ghost use Rattle.fault.specs.Refusals.{ToldWhole, counts_line, layer_name, name_of, number, refusal_line, request_line, text_of, told};
+ghost use Rattle.std.specs.Fmt.{DisplaysOnOk};
+ghost use Rattle.std.specs.Prelude.{◌≡◌, Some};
 
+use std::error::Error;
+use std::fmt;
 use tdcall::TdCallError;
 
 // The refusals, by their numbers from 1 on.
-#[derive(Clone, Copy)]
+#[derive(Clone, Copy, Debug, PartialEq, Eq)]
 pub enum AcceptError {
     // The start or the end of a walk is no multiple of 4096.
     InvalidAlignment,
@@ -38,7 +42,7 @@ pub enum AcceptError {
 }
 
 // What found the fault.
-#[derive(Clone, Copy)]
+#[derive(Clone, Copy, Debug, PartialEq, Eq)]
 pub enum Layer {
     Host,
     Walk,
@@ -46,7 +50,7 @@ pub enum Layer {
 }
 
 // A refusal with every place: a place that does not apply is 0.
-#[derive(Clone, Copy)]
+#[derive(Clone, Copy, Debug, PartialEq, Eq)]
 pub struct Fault {
     pub error: AcceptError,
     pub layer: Layer,
@@ -61,6 +65,15 @@ pub struct Fault {
     pub part: u8,
     // the unit of the table that the fault is about: the first of the run in accepting, the marked one in an overlap
     pub unit: u64,
+}
+
+// The refusal by a host's reply.
+impl From<TdCallError> for AcceptError {
+    ghost from_gives = { λ e r. r ≡ TdCall e };
+
+    fn from(reply: TdCallError) -> AcceptError {
+        AcceptError::TdCall(reply)
+    }
 }
 
 impl AcceptError {
@@ -84,6 +97,55 @@ impl AcceptError {
             AcceptError::BadHost => 13,
         }
     }
+
+    // The refusal's name, as it is printed. A reply that fails a walk is known by the name of its error.
+    pub fn name(self) -> &'static str
+        ensures { result.now ≡ name_of self }
+    {
+        match self {
+            AcceptError::InvalidAlignment => "InvalidAlignment",
+            AcceptError::OutOfBounds => "OutOfBounds",
+            AcceptError::Overlap => "Overlap",
+            AcceptError::ArithmeticOverflow => "ArithmeticOverflow",
+            AcceptError::TdCall(error) => error.name(),
+            AcceptError::WrongImage => "WrongImage",
+            AcceptError::BadEntries => "BadEntries",
+            AcceptError::NoTable => "NoTable",
+            AcceptError::BadVersion => "BadVersion",
+            AcceptError::BadUnit => "BadUnit",
+            AcceptError::BadBitmap => "BadBitmap",
+            AcceptError::BadCoverage => "BadCoverage",
+            AcceptError::BadHost => "BadHost",
+        }
+    }
+}
+
+// A refusal is printed by its name.
+impl fmt::Display for AcceptError {
+    ghost output = { λ e. Some (name_of e) };
+
+    ghost styled_output = { λ e _. Some (name_of e) };
+
+    fn fmt<W: fmt::Write>(&self, f: &mut fmt::Formatter<W>) -> fmt::Result {
+        f.write_str(self.name())
+    }
+}
+
+impl Error for AcceptError {}
+
+// A layer is printed by its name.
+impl fmt::Display for Layer {
+    ghost output = { λ l. Some (layer_name l) };
+
+    ghost styled_output = { λ l _. Some (layer_name l) };
+
+    fn fmt<W: fmt::Write>(&self, f: &mut fmt::Formatter<W>) -> fmt::Result {
+        f.write_str(match self {
+            Layer::Host => "host",
+            Layer::Walk => "walk",
+            Layer::Table => "table",
+        })
+    }
 }
 
 impl Fault {
@@ -94,4 +156,41 @@ impl Fault {
     {
         self.error.number()
     }
+
+    // The lines of a fault as it is printed.
+    fn write_refusal<W: fmt::Write>(&self, f: &mut fmt::Formatter<W>) -> fmt::Result
+        ensures { DisplaysOnOk W.write_str_gives f.old result (Some (refusal_line self.now)) f.new }
+    {
+        writeln!(f, "refused by {}, {}", self.number(), self.error)
+    }
+
+    fn write_request<W: fmt::Write>(&self, f: &mut fmt::Formatter<W>) -> fmt::Result
+        ensures { DisplaysOnOk W.write_str_gives f.old result (Some (request_line self.now)) f.new }
+    {
+        write!(f, "  layer {}, status 0x{:016x}", self.layer, self.status)?;
+        writeln!(f, ", level {}, address 0x{:010x}", self.level, self.address)
+    }
+
+    fn write_counts<W: fmt::Write>(&self, f: &mut fmt::Formatter<W>) -> fmt::Result
+        ensures { DisplaysOnOk W.write_str_gives f.old result (Some (counts_line self.now)) f.new }
+    {
+        write!(
+            f,
+            "  count {}, part {}, unit {}",
+            self.count, self.part, self.unit
+        )
+    }
 }
+
+// A fault is printed with every place, on three lines.
+impl fmt::Display for Fault {
+    ghost output = { λ f. Some (text_of f) };
+
+    fn fmt<W: fmt::Write>(&self, f: &mut fmt::Formatter<W>) -> fmt::Result {
+        self.write_refusal(f)?;
+        self.write_request(f)?;
+        self.write_counts(f)
+    }
+}
+
+impl Error for Fault {}

@@ -5,7 +5,7 @@ use Rattle.std.proofs.lemmas.Bool.{ne_eqb}
 use Rattle.tdcall.specs.declared.TdCallError.TheVariants.{TdxPageAlreadyAccepted}
 use Rattle.tdcall.specs.Statuses.{class_of, number}
 use Rattle.host.specs.Pages.{Page, accepted, Pages, Request, accepting, taken, covers}
-use Rattle.host.specs.Replies.{Replies, Lent, later, since, after, unrolled, passed_on}
+use Rattle.host.specs.Replies.{Replies, later, since, after, unrolled}
 use Rattle.host.specs.Laws.{Sound, Sounds}
 
 pub sounds_now : (R : Replies) (P : Pages) (q : Request) → Sounds R P → Sound (R [] q) q P
@@ -73,9 +73,3 @@ module _ {S A : Type 0} (f : S → A) (next : S → Request → S) (s : S) where
   pub unrolled_later : (q : Request) → unrolled f next (next s q) ≡ later q (unrolled f next s)
   unfolding unrolled
   unrolled_later q = fun_ext (λ l. refl)
-
--- one request more that a layer passes on, or not
-pub passed_later : {S : Type 0} (passes : S → Request → List Request) (next : S → Request → S) (s s' : S) (q : Request) (M M' : Lent)
-    → s' ≡ next s q → M' ≡ since (passes s q) M → (λ l. M' (passed_on passes next s' l)) ≡ later q (λ l. M (passed_on passes next s l))
-unfolding passed_on
-passed_later passes next s s' q M M' e h = rw (e, h)

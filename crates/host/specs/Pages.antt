@@ -1,5 +1,5 @@
 -- The pages of a guest's memory, and the requests that accept them.
-use Rattle.std.specs.Prelude.{ℕ, ◌+◌, ◌*◌, ◌/◌, ◌^◌, Bool, cond, ◌&&◌, ◌==◌, nat_le, nat_lt}
+use Rattle.std.specs.Prelude.{ℕ, ◌+◌, ◌*◌, ◌/◌, ◌^◌, Bool, if◌then◌else◌, ◌&&◌, ◌==◌, nat_le, nat_lt}
 
 -- absent: not given to the guest; pending: given and not yet accepted
 pub data Page : Type 0 where
@@ -25,4 +25,4 @@ pub data Request : Type 0 where
 
 -- The pages after reply r to a request: zero makes every page of the block accepted, and nothing else changes a page.
 abbrev pub taken : ℕ → Request → Pages → Pages
-taken r (accepting l a) P p = cond (r == 0 && covers l a p) accepted (P p)
+taken r (accepting l a) P p = if r == 0 && covers l a p then accepted else P p

@@ -1,32 +1,29 @@
 // The interface behind which every host stands: pages, requests and replies, and the laws that each host proves.
 #![tactic(auto)]
 
-ghost use Rattle.std.specs.Prelude.{◌≡◌, ℕ, List, []};
+ghost use Rattle.std.specs.Prelude.{◌≡◌, []};
 ghost use Rattle.host.specs.Laws.{Sounds};
-ghost use Rattle.host.specs.Pages.{Pages, accepting, taken};
-ghost use Rattle.host.specs.Replies.{Lent, Replies, later};
+ghost use Rattle.host.specs.Pages.{accepting};
+ghost use Rattle.host.specs.States.{HostState, received};
+
+pub mod page_level;
+
+// The block of a level at an address. It may be one that no page table can map, which a host then refuses.
+#[derive(Clone, Copy, Debug, PartialEq, Eq)]
+pub struct Block {
+    pub level: u8,
+    pub address: u64,
+}
 
 pub trait Host {
-    // The state of each page, by its number.
-    ghost pages: { Self → Pages };
-
-    // The reply to a request after some earlier ones.
-    ghost replies: { Self → Replies };
-
-    // The bytes that are lent to the host, after some requests.
-    ghost lent: { Self → Lent };
-
-    // What the host keeps for good: its numbers, and the names of the references that it holds.
-    ghost fixed: { Self → List ℕ };
+    // What it replies from now on, its pages, the bytes that are lent to it, and what it keeps for good.
+    ghost state: { Self → HostState };
 
     // Whatever is asked from now on, every reply is sound.
-    ghost sound: { (s : Self) → Sounds (replies s) (pages s) };
+    ghost sound: { (s : Self) → Sounds (state s).replies (state s).pages };
 
-    // Asks to accept the block of a level at an address, and answers the 64-bit reply.
-    fn accept(&mut self, level: u8, address: u64) -> u64
-        ensures answer { result ≡ replies self.old [] (accepting level address) }
-        ensures later { replies self.new ≡ later (accepting level address) (replies self.old) }
-        ensures after { pages self.new ≡ taken result (accepting level address) (pages self.old) }
-        ensures lent { lent self.new ≡ later (accepting level address) (lent self.old) }
-        ensures fixed { fixed self.new ≡ fixed self.old };
+    // Asks to accept a block, and answers the 64-bit reply.
+    fn accept(&mut self, block: Block) -> u64
+        ensures answer { result ≡ (state self.old).replies [] (accepting block.level block.address) }
+        ensures state { state self.new ≡ received (accepting block.level block.address) (state self.old) };
 }

@@ -1,14 +1,12 @@
--- Inject does what its law says, and it is sound over a sound host.
-use Rattle.std.proofs.Common.{◌≡◌, ℕ, true, false, ◌⊎◌, List, [], drop, refl, ⊎_elim}
+-- Inject does what its law says, and it is lawful over any host.
+use Rattle.std.proofs.Common.{◌≡◌, ℕ, ◌+◌, ◌≤◌, true, false, ◌⊎◌, List, length, get_or, drop, sym, refl, ap, ◌∙◌, ⊎_elim, add-zero}
+use Rattle.std.proofs.lemmas.List.{get_or-drop, drop-drop, drop_all}
 use Rattle.std.proofs.lemmas.Bool.{and_from, and_parts, and_left, and_right, not-true, not_from_false, not_from_true, eq-eqb, ne_eqb, eqb-false}
 use Rattle.tdcall.specs.declared.TdCallError.TheVariants.{TdxPageAlreadyAccepted}
 use Rattle.tdcall.specs.Statuses.{class_of, number}
-use Rattle.host.proofs.Soundness.{sounds_by, unrolled_now, unrolled_later}
-use Rattle.host.specs.Pages.{Request, Pages, taken}
-use Rattle.host.specs.Replies.{Replies, later, unrolled}
-use Rattle.host.specs.Laws.{Sound, Sounds}
-use Rattle.host_models.specs.Inject.{Injecting, next_word, is_reply, inject_reply, inject_next, inject_replies, InjectLaw}
-use Rattle.host_models.proofs.Layer.{Below, below_unless, unless_now, unless_next, unless_past}
+use Rattle.host.specs.Layers.{Lawful}
+use Rattle.host_models.specs.Inject.{next_word, is_reply, injecting, InjectLaw}
+use Rattle.host_models.proofs.Unless.{reply_sound, pages_left}
 
 module _ (w : ℕ) where
   pub is_reply_lem : (w ≡ 0 → ⊥) → (class_of w ≡ number TdxPageAlreadyAccepted → ⊥) → is_reply w ≡ true
@@ -20,6 +18,17 @@ module _ (w : ℕ) where
   pub reply_parts : is_reply w ≡ true → (w ≡ 0 → ⊥) × (class_of w ≡ number TdxPageAlreadyAccepted → ⊥)
   reply_parts t = let b = and_parts _ _ t in (eqb-false _ _ (not-true _ b.0), eqb-false _ _ (not-true _ b.1))
 
+-- the words that are left when i were used
+module _ (ws : List ℕ) (i : ℕ) where
+  pub next_at : next_word (drop i ws) ≡ get_or ws i 0
+  next_at = get_or-drop i ws 0 0 ∙ ap (λ k. get_or ws k 0) (add-zero i)
+
+  pub left_then : drop (i + 1) ws ≡ drop 1 (drop i ws)
+  left_then = sym (drop-drop 1 i ws)
+
+  pub left_none : length ws ≤ i → drop i ws ≡ drop 1 (drop i ws)
+  left_none h = let none = drop_all i ws h in none ∙ ap (λ (vs : List ℕ). drop 1 vs) (sym none)
+
 pub inject_law : InjectLaw
 inject_law s q =
     record {
@@ -30,44 +39,8 @@ inject_law s q =
       used = refl;
     }
 
--- one request, by whether its word is a reply
-module _ (ws : List ℕ) (R : Replies) (q : Request) where
-  abbrev before : Injecting
-  before = record { words = ws; below = R }
-
-  pub inject_given : is_reply (next_word ws) ≡ true
-      → (next_word ws ≡ inject_reply before q) × (record { words = drop 1 ws; below = R } ≡ inject_next before q)
-  inject_given e = (rw e, rw e)
-
-  pub inject_passed : is_reply (next_word ws) ≡ false
-      → (R [] q ≡ inject_reply before q) × (record { words = drop 1 ws; below = later q R } ≡ inject_next before q)
-  inject_passed e = (rw e, rw e)
-
--- the words left over a host below
-record Over : Type 0 where
-  words : List ℕ
-  below : Below
-
-abbrev shown : Over → Injecting
-shown o = record { words = o.words; below = o.below.replies }
-
-abbrev over_next : Over → Request → Over
-over_next o q = record { words = drop 1 o.words; below = below_unless (is_reply (next_word o.words)) o.below q }
-
-module _ (o : Over) (q : Request) where
-  abbrev word : ℕ
-  word = next_word o.words
-
-  inject_now : Sound (unrolled inject_reply inject_next (shown o) [] q) q o.below.pages
-  inject_now = rw (unrolled_now inject_reply inject_next (shown o)) (unless_now o.below word q (is_reply word) (reply_parts word))
-
-  inject_later : unrolled inject_reply inject_next (shown (over_next o q)) ≡ later q (unrolled inject_reply inject_next (shown o))
-  inject_later = rw (unless_next o.below word q (is_reply word)) (unrolled_later inject_reply inject_next (shown o) q)
-
-  inject_past : (over_next o q).below.pages ≡ taken (unrolled inject_reply inject_next (shown o) [] q) q o.below.pages
-  inject_past = rw (unrolled_now inject_reply inject_next (shown o)) (unless_past o.below word q (is_reply word) (reply_parts word))
-
-pub inject_sounds : (ws : List ℕ) (R : Replies) (P : Pages) → Sounds R P → Sounds (inject_replies ws R) P
-inject_sounds ws R P so =
-    sounds_by {S = Over} (λ o. unrolled inject_reply inject_next (shown o)) (λ o. o.below.pages) over_next inject_now inject_later inject_past
-    (record { words = ws; below = record { replies = R; pages = P; sound = so } })
+pub inject_lawful : Lawful injecting
+inject_lawful = record {
+  sound = λ ws R P q so. reply_sound (next_word ws) (is_reply (next_word ws)) (reply_parts (next_word ws)) R P q so;
+  pages = λ ws R P q. pages_left (next_word ws) (is_reply (next_word ws)) (reply_parts (next_word ws)) R P q;
+}

@@ -1,4 +1,4 @@
-pub mod Layer
+pub mod Unless
 pub mod Cap
 pub mod Retry
 pub mod Inject

@@ -1,5 +1,5 @@
 -- A map tells and leaves what its law says, and it is sound.
-use Rattle.std.proofs.Common.{◌≡◌, ℕ, ◌+◌, ◌-◌, ◌/◌, ◌%◌, ◌^◌, ◌<◌, ◌≤◌, Bool, true, false, cond, not, ◌||◌, eqb, ltb, ◌⊎◌, List, length, get_or, take, drop, sym, refl, ap, ◌∙◌, inl, inr, ⊎_elim, arith, length-take}
+use Rattle.std.proofs.Common.{◌≡◌, ℕ, ◌+◌, ◌-◌, ◌/◌, ◌%◌, ◌^◌, ◌<◌, ◌≤◌, Bool, true, false, cond, not, ◌||◌, eqb, ltb, ◌⊎◌, List, [], length, get_or, take, drop, sym, refl, ap, ◌∙◌, inl, inr, ⊎_elim, arith, length-take}
 use mathlib.Core.Path.{fun_ext}
 use Rattle.std.proofs.lemmas.List.FromFn.{get_or-map-range_with_len, length-map-range_with_len}
 use Rattle.std.proofs.lemmas.List.{get_or-take, get_or-drop, get_or_past, length-drop, ext_get_or}
@@ -8,8 +8,10 @@ use Rattle.tdcall.specs.declared.TdCallError.TheVariants.{TdxOperandInvalid, Tdx
 use Rattle.tdcall.specs.Statuses.{class_of, number, status_of}
 use Rattle.host.proofs.Soundness.{sounds_by, taken_none, unrolled_now, unrolled_later}
 use Rattle.host.specs.Pages.{Page, absent, pending, accepted, Pages, Request, accepting, size, covers, taken}
+use Rattle.host.specs.States.{received}
 use Rattle.host.specs.Laws.{SoundAccept, Sound, Sounds}
-use Rattle.host_models.specs.Map.{page_of, byte_of, map_pages, map_level, is_absent, is_accepted, some_page, map_reply, block_accepted, map_next, map_replies, Valid, Tells, invalid, missing, already, smaller, success, Leaves, MapTells, MapLeaves, MapLaw}
+use Rattle.host.proofs.Layers.{same_state}
+use Rattle.host_models.specs.Map.{page_of, byte_of, map_pages, map_level, is_absent, is_accepted, some_page, map_reply, block_accepted, map_next, map_replies, map_state, Valid, Tells, invalid, missing, already, smaller, success, Leaves, MapTells, MapLeaves, MapLaw}
 use Rattle.host_models.proofs.Some.{some_true, some_false}
 
 absent_is : (x : Page) → is_absent x ≡ true → x ≡ absent
@@ -242,12 +244,20 @@ module _ (f c : ℕ) (L : List ℕ) where
       (λ z. rw (next_other f c L l a z) (taken_none (map_reply f c L (accepting l a)) (accepting l a) (map_pages f c L) z))
       (cases_eq (map_reply f c L (accepting l a)) 0)
 
-  pub map_behind : (q : Request) → drop c (map_next f c L q) ≡ drop c L
-  map_behind (accepting l a) = (map_leaves f c L l a).behind
-
 pub map_sounds : (f c : ℕ) (L : List ℕ) → Sounds (map_replies f c L) (map_pages f c L)
 map_sounds f c =
     sounds_by (map_replies f c) (map_pages f c) (map_next f c)
     (λ L q. rw (unrolled_now (map_reply f c) (map_next f c) L) (map_now f c L q))
     (unrolled_later (map_reply f c) (map_next f c))
     (λ L q. rw (unrolled_now (map_reply f c) (map_next f c) L) (map_past f c L q))
+
+-- one request of a map, by its name and its bytes
+module _ (f c name : ℕ) (L : List ℕ) (q : Request) where
+  pub map_answers : map_reply f c L q ≡ (map_state f c name L).replies [] q
+  map_answers = ap (λ (g : Request → ℕ). g q) (sym (unrolled_now (map_reply f c) (map_next f c) L))
+
+  pub map_receives : map_state f c name (map_next f c L q) ≡ received q (map_state f c name L)
+  map_receives =
+      same_state _ _ _ _ _ _ _ (unrolled_later (map_reply f c) (map_next f c) L q)
+      (map_past f c L q ∙ ap (λ (r : ℕ). taken r q (map_pages f c L)) map_answers)
+      (unrolled_later (λ (K : List ℕ). K) (map_next f c) L q)

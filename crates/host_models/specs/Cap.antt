@@ -1,28 +1,29 @@
 -- A cap over any host: a request above its level goes no further.
-use Rattle.std.specs.Prelude.{◌≡◌, ℕ, ◌<◌, ◌≤◌, cond, List, [], ◌∷◌, nat_lt}
+use Rattle.std.specs.Prelude.{◌≡◌, ℕ, ◌<◌, ◌≤◌, if◌then◌else◌, List, [], ◌∷◌, nat_lt}
 use Rattle.tdcall.specs.declared.TdCallError.TheVariants.{TdxPageSizeMismatch}
 use Rattle.tdcall.specs.Statuses.{status_of}
 use Rattle.host.specs.Pages.{Request, accepting}
-use Rattle.host.specs.Replies.{Replies, Lent, later, since, unrolled, passed_on}
+use Rattle.host.specs.Replies.{Replies, later, since}
+use Rattle.host.specs.Layers.{Layer, layer_replies}
 
 -- the reply of a cap of level c over a host that replies R
 abbrev pub cap_reply : ℕ → Replies → Request → ℕ
-cap_reply c R (accepting l a) = cond (nat_lt c l) (status_of TdxPageSizeMismatch) (R [] (accepting l a))
+cap_reply c R (accepting l a) = if nat_lt c l then status_of TdxPageSizeMismatch else R [] (accepting l a)
 
 -- the requests that go on to the host below
 abbrev pub cap_passes : ℕ → Replies → Request → List Request
-cap_passes c R (accepting l a) = cond (nat_lt c l) [] (accepting l a ∷ [])
+cap_passes c R (accepting l a) = if nat_lt c l then [] else accepting l a ∷ []
+
+-- a cap, whose own state is its level
+abbrev pub capping : Layer ℕ
+capping = record { reply = cap_reply; passes = cap_passes; next = λ c. c }
+
+abbrev pub cap_replies : ℕ → Replies → Replies
+cap_replies = layer_replies capping
 
 -- the replies of the host below afterwards
 abbrev pub cap_next : ℕ → Replies → Request → Replies
 cap_next c R q = since (cap_passes c R q) R
-
-abbrev pub cap_replies : ℕ → Replies → Replies
-cap_replies c = unrolled (cap_reply c) (cap_next c)
-
--- the bytes that are lent to the host below, M, by the requests that come to the cap
-abbrev pub cap_lent : ℕ → Replies → Lent → Lent
-cap_lent c R M l = M (passed_on (cap_passes c) (cap_next c) R l)
 
 -- What a cap of level c does with a request for a block, where r is its reply, and R and S are the replies of the host
 -- below before and after it.

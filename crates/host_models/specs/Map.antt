@@ -1,14 +1,15 @@
 -- The map host: one byte a page. What it replies, what its bytes are afterwards, and its pages.
-use Rattle.std.specs.Prelude.{◌≡◌, ℕ, zero, suc, ◌+◌, ◌-◌, ◌/◌, ◌%◌, ◌^◌, ◌<◌, ◌≤◌, Bool, true, false, cond, not, ◌&&◌, ◌||◌, List, map, length, take, drop, ◌==◌, ◌≢◌, nat_le, nat_lt, slice_index}
+use Rattle.std.specs.Prelude.{◌≡◌, ℕ, zero, suc, ◌+◌, ◌-◌, ◌/◌, ◌%◌, ◌^◌, ◌<◌, ◌≤◌, Bool, true, false, if◌then◌else◌, not, ◌&&◌, ◌||◌, List, [], ◌∷◌, map, length, take, drop, ◌==◌, ◌≢◌, nat_le, nat_lt, slice_index}
 use Rattle.std.specs.List.{range_with_len}
 use Rattle.tdcall.specs.declared.TdCallError.TheVariants.{TdxOperandInvalid, TdxOperandAddrRangeError, TdxPageAlreadyAccepted, TdxPageSizeMismatch}
 use Rattle.tdcall.specs.Statuses.{status_of}
 use Rattle.host.specs.Pages.{Page, absent, pending, accepted, Pages, Request, accepting, size, covers}
 use Rattle.host.specs.Replies.{Replies, Lent, unrolled}
+use Rattle.host.specs.States.{HostState}
 
 -- What a byte says of its page: 1, 2, 3 pending and mapped at level 0, 1, 2; 4 accepted; 0 and every other absent.
 abbrev pub page_of : ℕ → Page
-page_of b = cond (b == 4) accepted (cond (nat_le 1 b && nat_le b 3) pending absent)
+page_of b = if b == 4 then accepted else (if nat_le 1 b && nat_le b 3 then pending else absent)
 
 -- the level at which the page of a byte is mapped, where it is pending
 abbrev pub level_of : ℕ → ℕ
@@ -16,7 +17,7 @@ level_of b = b - 1
 
 -- The byte of page p, in a map of at most c pages from page number f on, a byte each; a page outside has 0.
 abbrev pub byte_of : ℕ → ℕ → List ℕ → ℕ → ℕ
-byte_of f c L p = cond (nat_le f p) (slice_index (take c L) (p - f)) 0
+byte_of f c L p = if nat_le f p then slice_index (take c L) (p - f) else 0
 
 abbrev pub map_pages : ℕ → ℕ → List ℕ → Pages
 map_pages f c L p = page_of (byte_of f c L p)
@@ -46,18 +47,18 @@ some_page test l a = some_of test (a / 4096) (512 ^ l)
 -- the reply to a request: the first that fits
 unfoldable pub map_reply : ℕ → ℕ → List ℕ → Request → ℕ
 map_reply f c L (accepting l a) =
-    cond (nat_lt 2 l || not (a % size l == 0)) (status_of TdxOperandInvalid)
-    (cond (some_page (λ p. is_absent (map_pages f c L p)) l a) (status_of TdxOperandAddrRangeError)
-    (cond (some_page (λ p. is_accepted (map_pages f c L p)) l a) (status_of TdxPageAlreadyAccepted)
-    (cond (some_page (λ p. nat_lt (map_level f c L p) l) l a) (status_of TdxPageSizeMismatch) 0)))
+    if nat_lt 2 l || not (a % size l == 0) then status_of TdxOperandInvalid
+    else (if some_page (λ p. is_absent (map_pages f c L p)) l a then status_of TdxOperandAddrRangeError
+    else (if some_page (λ p. is_accepted (map_pages f c L p)) l a then status_of TdxPageAlreadyAccepted
+    else (if some_page (λ p. nat_lt (map_level f c L p) l) l a then status_of TdxPageSizeMismatch else 0)))
 
 -- the bytes once every page of a block is accepted
 abbrev pub block_accepted : ℕ → ℕ → ℕ → List ℕ → List ℕ
-block_accepted f l a L = map (λ i. cond (covers l a (f + i)) 4 (slice_index L i)) (range_with_len 0 (length L))
+block_accepted f l a L = map (λ i. if covers l a (f + i) then 4 else slice_index L i) (range_with_len 0 (length L))
 
 -- the bytes after a request: a zero reply accepts the block, and another changes none
 unfoldable pub map_next : ℕ → ℕ → List ℕ → Request → List ℕ
-map_next f c L (accepting l a) = cond (map_reply f c L (accepting l a) == 0) (block_accepted f l a L) L
+map_next f c L (accepting l a) = if map_reply f c L (accepting l a) == 0 then block_accepted f l a L else L
 
 abbrev pub map_replies : ℕ → ℕ → List ℕ → Replies
 map_replies f c = unrolled (map_reply f c) (map_next f c)
@@ -65,6 +66,10 @@ map_replies f c = unrolled (map_reply f c) (map_next f c)
 -- the bytes after the requests of a list, the first of them first
 abbrev pub map_after : ℕ → ℕ → List ℕ → Lent
 map_after f c = unrolled (λ L. L) (map_next f c)
+
+-- a map of at most c pages from page number f on, over the bytes L that are lent to it by the name given
+abbrev pub map_state : ℕ → ℕ → ℕ → List ℕ → HostState
+map_state f c name L = record { replies = map_replies f c L; pages = map_pages f c L; lent = map_after f c L; fixed = f ∷ c ∷ name ∷ [] }
 
 -- a level from 0 to 2 and an address that is a multiple of its size
 pub record Valid (l a : ℕ) : Type 0 where

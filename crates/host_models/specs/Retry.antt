@@ -1,9 +1,10 @@
 -- Retry over any host: a busy reply is followed by the same request again, up to n times, and the last reply is given.
-use Rattle.std.specs.Prelude.{◌≡◌, ℕ, zero, suc, ◌+◌, ◌<◌, ◌≤◌, Bool, cond, List, [], ◌∷◌, replicate, ◌==◌}
+use Rattle.std.specs.Prelude.{◌≡◌, ℕ, zero, suc, ◌+◌, ◌<◌, ◌≤◌, Bool, if◌then◌else◌, List, [], ◌∷◌, replicate, ◌==◌}
 use Rattle.tdcall.specs.declared.TdCallError.TheVariants.{TdxOperandBusy}
 use Rattle.tdcall.specs.Statuses.{class_of, number}
 use Rattle.host.specs.Pages.{Request}
-use Rattle.host.specs.Replies.{Replies, Lent, later, since, unrolled, passed_on}
+use Rattle.host.specs.Replies.{Replies, later}
+use Rattle.host.specs.Layers.{Layer, layer_replies}
 
 abbrev pub is_busy : ℕ → Bool
 is_busy r = class_of r == number TdxOperandBusy
@@ -11,23 +12,19 @@ is_busy r = class_of r == number TdxOperandBusy
 -- the reply that is given, with n more requests allowed, over a host that replies R
 unfoldable pub retry_reply : ℕ → Replies → Request → ℕ
 retry_reply zero R q = R [] q
-retry_reply (suc n) R q = cond (is_busy (R [] q)) (retry_reply n (later q R) q) (R [] q)
+retry_reply (suc n) R q = if is_busy (R [] q) then retry_reply n (later q R) q else R [] q
 
 -- the requests that go on to the host below
 unfoldable pub retry_passes : ℕ → Replies → Request → List Request
 retry_passes zero R q = q ∷ []
-retry_passes (suc n) R q = q ∷ cond (is_busy (R [] q)) (retry_passes n (later q R) q) []
+retry_passes (suc n) R q = q ∷ (if is_busy (R [] q) then retry_passes n (later q R) q else [])
 
--- the replies of the host below afterwards
-abbrev pub retry_next : ℕ → Replies → Request → Replies
-retry_next n R q = since (retry_passes n R q) R
+-- a retry, whose own state is how many times it may ask again
+abbrev pub retrying : Layer ℕ
+retrying = record { reply = retry_reply; passes = retry_passes; next = λ n. n }
 
 abbrev pub retry_replies : ℕ → Replies → Replies
-retry_replies n = unrolled (retry_reply n) (retry_next n)
-
--- the bytes that are lent to the host below, M, by the requests that come to the retry
-abbrev pub retry_lent : ℕ → Replies → Lent → Lent
-retry_lent n R M l = M (passed_on (retry_passes n) (retry_next n) R l)
+retry_replies = layer_replies retrying
 
 -- What becomes of one request, where r is the reply given, R are the replies of the host below before, and qs the requests
 -- that it receives.

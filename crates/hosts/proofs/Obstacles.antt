@@ -1,48 +1,70 @@
 -- The highest obstacle in a block gives the reply of the map.
-use Rattle.std.proofs.Common.{◌≡◌, ℕ, zero, suc, ◌+◌, ◌-◌, ◌*◌, ◌/◌, ◌%◌, ◌^◌, ◌<◌, ◌≤◌, min, max, Bool, true, false, cond, not, ◌&&◌, ◌||◌, eqb, ltb, leb, ◌⊎◌, List, [], length, get_or, set, Some, None, Option, sym, refl, ap, ◌∙◌, ap₂, inl, inr, ⊎_elim, arith, get_or-set_other, get_or-set_same}
+use Rattle.std.proofs.Common.{◌≡◌, ◌≢◌, ℕ, zero, suc, ◌+◌, ◌-◌, ◌/◌, ◌%◌, ◌^◌, ◌<◌, ◌≤◌, min, max, Bool, true, false, cond, not, ◌&&◌, ◌||◌, eqb, ltb, leb, ◌⊎◌, List, length, get_or, take, drop, Some, None, Option, Ok, Err, Result, sym, refl, ap, ◌∙◌, ap₂, inl, inr, ⊎_elim, arith, length-take}
+use native.Mathlib.Nat.{one-le-pow}
+use Rattle.std.proofs.lemmas.List.{get_or-take, get_or-drop, length-drop}
 use Rattle.std.proofs.lemmas.List.FromFn.{fill_by_all}
-use Rattle.std.proofs.lemmas.Bool.{cases_eq, cases_Bool, and_cases, leb-false, cond-true, and_parts, and_from, leb-true, or_from, or_left, or_right, not_from_true, not_from_false, eq-eqb, ne_eqb, lt-ltb, le-ltb, le-leb, lt-leb, cases_lt}
+use Rattle.std.proofs.lemmas.Bool.{cases_eq, cases_Bool, and_cases, and_left, and_right, leb-false, and_parts, leb-true, or_from, or_left, or_right, not_from_true, not_from_false, eq-eqb, ne_eqb, lt-ltb, le-ltb, le-leb, lt-leb, cases_lt}
 use Rattle.tdcall.specs.declared.TdCallError.TheVariants.{TdxOperandInvalid, TdxOperandAddrRangeError, TdxPageAlreadyAccepted, TdxPageSizeMismatch}
-use Rattle.tdcall.specs.Statuses.{status_of}
-use Rattle.host.specs.Pages.{absent, pending, accepted, accepting, size, covers, taken}
-use Rattle.host.specs.Replies.{later}
-use Rattle.host_models.specs.Map.{page_of, level_of, byte_of, map_pages, map_level, is_absent, is_accepted, some_of, map_reply, map_next, map_replies, map_after, block_accepted, Valid}
+use Rattle.tdcall.specs.declared.TdCallError.{TdCallError}
+use Rattle.tdcall.specs.Statuses.{status_of, encoded}
+use Rattle.host.specs.Pages.{Page, absent, pending, accepted, accepting, size, covers}
+use Rattle.host_models.specs.Map.{page_of, level_of, byte_of, map_pages, map_level, is_absent, is_accepted, some_of, map_reply, map_next, block_accepted, Valid}
 use Rattle.host_models.proofs.Some.{some_at, some_like}
-use Rattle.host_models.proofs.Map.{byte_in, byte_below, byte_past, next_zero, next_other, map_past}
-use Rattle.host_models.proofs.Layer.{stepped_now, stepped_later}
+use Rattle.host_models.proofs.Map.{byte_in, byte_below, byte_past, next_zero, next_other}
+use Rattle.std.specs.declared.ops.Range.{Range}
 use Rattle.hosts.specs.Blocks.{block_bytes}
-use Rattle.hosts.specs.Obstacles.{obstacle, highest, reply_to}
+use Rattle.host.specs.Levels.{level_number}
+use Rattle.host.specs.declared.page_level.PageLevel.{PageLevel}
+use Rattle.host.specs.declared.page_level.PageLevel.TheVariants.{L1_4K, L2_2M, L3_1G}
+use Rattle.hosts.specs.declared.map.MapPage.{MapPage}
+use Rattle.hosts.specs.declared.map.MapPage.TheVariants as says
+use Rattle.hosts.specs.declared.map.Obstacle.{Obstacle}
+use Rattle.hosts.specs.declared.map.Obstacle.TheVariants as way
+use Rattle.std.specs.Ordering.{ord_max}
+use Rattle.std.specs.Option.{option_cmp}
+use Rattle.hosts.specs.contracts.map.ObstacleOrd.TheImpl as order
+use Rattle.hosts.specs.MapPages.{map_page, obstacle_to, rank, weight, highest, error_for}
 
--- the obstacle of one byte, by the tests that it passes: accepted, pending, at most the level
-module _ (s : Bool) where
-  absent_of : (e m : Bool) → is_absent (cond e accepted (cond m pending absent)) ≡ leb 3 (cond e 2 (cond m (cond s 1 0) 3))
-  absent_of true m = refl
-  absent_of false true = elim s as (λ x. false ≡ leb 3 (cond x 1 0)) [ true ↦ refl | false ↦ refl ]
-  absent_of false false = refl
+-- the reply that an obstacle of some weight gives
+abbrev reply_to : ℕ → ℕ
+reply_to o =
+    cond (leb 3 o) (status_of TdxOperandAddrRangeError)
+    (cond (leb 2 o) (status_of TdxPageAlreadyAccepted) (cond (leb 1 o) (status_of TdxPageSizeMismatch) 0))
 
-  accepted_of : (e m : Bool)
-      → (is_absent (cond e accepted (cond m pending absent)) || is_accepted (cond e accepted (cond m pending absent))) ≡ leb 2 (cond e 2 (cond m (cond s 1 0) 3))
-  accepted_of true m = refl
-  accepted_of false true = elim s as (λ x. false ≡ leb 2 (cond x 1 0)) [ true ↦ refl | false ↦ refl ]
-  accepted_of false false = refl
-
-  below_of : (t e m : Bool) → (m ≡ true → t ≡ s)
-      → (is_absent (cond e accepted (cond m pending absent)) || (is_accepted (cond e accepted (cond m pending absent)) || t)) ≡ leb 1 (cond e 2 (cond m (cond s 1 0) 3))
-  below_of t true m h = refl
-  below_of t false true h = h refl ∙ elim s as (λ x. x ≡ leb 1 (cond x 1 0)) [ true ↦ refl | false ↦ refl ]
-  below_of t false false h = refl
+-- what a map's byte says of its page is what the code reads
+by_byte : (Q : Page → ℕ → MapPage → Type 0) → Q pending 0 (says.Pending L1_4K) → Q pending 1 (says.Pending L2_2M) → Q pending 2 (says.Pending L3_1G)
+    → ((n : ℕ) → Q accepted n says.Accepted) → ((n : ℕ) → Q absent n says.Absent) → (b : ℕ) → Q (page_of b) (level_of b) (map_page b)
+by_byte Q one two three whole none b =
+    ⊎_elim (λ (e : b ≡ 1). rw e one)
+    (λ (n : b ≢ 1). ⊎_elim (λ (e : b ≡ 2). rw e two)
+    (λ (m : b ≢ 2). ⊎_elim (λ (e : b ≡ 3). rw e three)
+    (λ (k : b ≢ 3). ⊎_elim (λ (e : b ≡ 4). rw e (whole 3))
+    (λ (j : b ≢ 4). rw (ne_eqb b 1 n, ne_eqb b 2 m, ne_eqb b 3 k, ne_eqb b 4 j, out n m k j) (none (level_of b)))
+    (cases_eq b 4)) (cases_eq b 3)) (cases_eq b 2)) (cases_eq b 1)
+  where
+    out : b ≢ 1 → b ≢ 2 → b ≢ 3 → b ≢ 4 → (leb 1 b && leb b 3) ≡ false
+    out n m k j = ⊎_elim (λ h. and_left _ _ (lt-leb 1 b h)) (λ h. and_right _ _ (lt-leb b 3 (omega (arith, n, m, k, j)))) (cases_lt b 1)
 
 module _ (l b : ℕ) where
-  absent_by : is_absent (page_of b) ≡ leb 3 (obstacle l b)
-  absent_by = absent_of (leb b l) (eqb b 4) (leb 1 b && leb b 3)
+  absent_by : is_absent (page_of b) ≡ leb 3 (weight l b)
+  absent_by = by_byte (λ p n m. is_absent p ≡ leb 3 (rank (obstacle_to l m))) (smaller (ltb 0 l)) (smaller (ltb 1 l)) (smaller (ltb 2 l)) (λ n. refl) (λ n. refl) b
+    where
+      smaller : (t : Bool) → false ≡ leb 3 (rank (cond t (Some way.MappedSmaller) None))
+      smaller = elim [ true ↦ refl | false ↦ refl ]
 
-  accepted_by : (is_absent (page_of b) || is_accepted (page_of b)) ≡ leb 2 (obstacle l b)
-  accepted_by = accepted_of (leb b l) (eqb b 4) (leb 1 b && leb b 3)
+  accepted_by : (is_absent (page_of b) || is_accepted (page_of b)) ≡ leb 2 (weight l b)
+  accepted_by =
+      by_byte (λ p n m. (is_absent p || is_accepted p) ≡ leb 2 (rank (obstacle_to l m))) (smaller (ltb 0 l)) (smaller (ltb 1 l)) (smaller (ltb 2 l)) (λ n. refl) (λ n. refl) b
+    where
+      smaller : (t : Bool) → false ≡ leb 2 (rank (cond t (Some way.MappedSmaller) None))
+      smaller = elim [ true ↦ refl | false ↦ refl ]
 
-  below_by : (is_absent (page_of b) || (is_accepted (page_of b) || ltb (level_of b) l)) ≡ leb 1 (obstacle l b)
+  below_by : (is_absent (page_of b) || (is_accepted (page_of b) || ltb (level_of b) l)) ≡ leb 1 (weight l b)
   below_by =
-      below_of (leb b l) (ltb (level_of b) l) (eqb b 4) (leb 1 b && leb b 3)
-      (λ m. let some : 1 ≤ b = leb-true 1 b (and_parts (leb 1 b) (leb b 3) m).0 in let back : suc (b - 1) ≡ b = omega arith in ap (λ k. leb k l) back)
+      by_byte (λ p n m. (is_absent p || (is_accepted p || ltb n l)) ≡ leb 1 (rank (obstacle_to l m))) (smaller (ltb 0 l)) (smaller (ltb 1 l)) (smaller (ltb 2 l)) (λ n. refl) (λ n. refl) b
+    where
+      smaller : (t : Bool) → t ≡ leb 1 (rank (cond t (Some way.MappedSmaller) None))
+      smaller = elim [ true ↦ refl | false ↦ refl ]
 
 -- either of two tests
 or_swap : (a b x y : Bool) → ((a || b) || (x || y)) ≡ ((a || x) || (b || y))
@@ -68,12 +90,12 @@ leb_max k x y =
     (λ h. or_left _ _ (le-leb k x h) ∙ sym (le-leb k (max x y) (omega arith)))
     (cases_lt x k)
 
-some_highest : (l : ℕ) (L : List ℕ) (k i n : ℕ) → 0 < k → some_of (λ j. leb k (obstacle l (get_or L j 0))) i n ≡ leb k (highest l L i n)
+some_highest : (l : ℕ) (L : List ℕ) (k i n : ℕ) → 0 < k → some_of (λ j. leb k (weight l (get_or L j 0))) i n ≡ leb k (highest l L i n)
 unfolding some_of highest
 some_highest l L k i zero h = sym (lt-leb k 0 h)
 some_highest l L k i (suc n) h =
-    ap (λ (x : Bool). leb k (obstacle l (get_or L i 0)) || x) (some_highest l L k (i + 1) n h)
-    ∙ leb_max k (obstacle l (get_or L i 0)) (highest l L (i + 1) n)
+    ap (λ (x : Bool). leb k (weight l (get_or L i 0)) || x) (some_highest l L k (i + 1) n h)
+    ∙ leb_max k (weight l (get_or L i 0)) (highest l L (i + 1) n)
 
 leb_like : (x y u v : ℕ) → (x ≤ y → u ≤ v) → (u ≤ v → x ≤ y) → leb x y ≡ leb u v
 leb_like x y u v to back =
@@ -84,7 +106,7 @@ leb_like x y u v to back =
 
 -- one byte more of a pass over them
 module _ (i e : ℕ) (l : ℕ) (L : List ℕ) where
-  pub highest_more : i < e → highest l L i (e - i) ≡ max (obstacle l (get_or L i 0)) (highest l L (i + 1) (e - (i + 1)))
+  pub highest_more : i < e → highest l L i (e - i) ≡ max (weight l (get_or L i 0)) (highest l L (i + 1) (e - (i + 1)))
   unfolding highest
   highest_more h = let left : e - i ≡ suc (e - (i + 1)) = omega arith in rw left
 
@@ -92,19 +114,33 @@ module _ (i e : ℕ) (l : ℕ) (L : List ℕ) where
   unfolding highest
   highest_none h = let left : e - i ≡ 0 = omega arith in rw left
 
-pub accepted_more : (L M : List ℕ) (from i : ℕ) → from ≤ i → i < length M
-    → ((k : ℕ) → get_or M k 0 ≡ cond (leb from k && ltb k i) 4 (get_or L k 0))
-    → (k : ℕ) → get_or (set M i 4) k 0 ≡ cond (leb from k && ltb k (i + 1)) 4 (get_or L k 0)
-accepted_more L M from i lo hi before k =
-    ⊎_elim
-    (λ same.
-    let here : get_or (set M i 4) k 0 ≡ 4 = rw same (get_or-set_same M i 4 0 hi) in
-    here ∙ sym (cond-true _ 4 (get_or L k 0) (and_from _ _ (le-leb from k (omega arith)) (le-leb (suc k) (i + 1) (omega arith)))))
-    (λ other.
-    get_or-set_other M i k 4 0 other
-    ∙ before k
-    ∙ ap (λ (x : Bool). cond (leb from k && x) 4 (get_or L k 0)) (leb_like (suc k) i (suc k) (i + 1) (λ h. omega arith) (λ h. omega arith)))
-    (cases_eq k i)
+-- a pass over a part of the bytes is one over their places in the whole
+pub highest_like : (l : ℕ) (L M : List ℕ) (i j n : ℕ) → ((k : ℕ) → k < n → get_or L (i + k) 0 ≡ get_or M (j + k) 0) → highest l L i n ≡ highest l M j n
+unfolding highest
+highest_like l L M i j zero h = refl
+highest_like l L M i j (suc n) h =
+    let first : get_or L i 0 ≡ get_or M j 0 = let z : i + 0 ≡ i = omega arith in let y : j + 0 ≡ j = omega arith in rw (z, y) at (h 0 (omega arith)) in
+    let rest = highest_like l L M (i + 1) (j + 1) n (λ k b. let e : i + 1 + k ≡ i + (k + 1) = omega arith in let d : j + 1 + k ≡ j + (k + 1) = omega arith in rw (e, d) (h (k + 1) (omega arith))) in
+    ap₂ max (ap (weight l) first) rest
+
+-- the higher of two in the order of the code
+pub rank_max : (a b : Option Obstacle) → rank (ord_max (option_cmp order.cmp-value.it) a b) ≡ max (rank a) (rank b)
+rank_max None None = refl
+rank_max None (Some way.MappedSmaller) = refl
+rank_max None (Some way.Accepted) = refl
+rank_max None (Some way.Absent) = refl
+rank_max (Some way.MappedSmaller) None = refl
+rank_max (Some way.MappedSmaller) (Some way.MappedSmaller) = refl
+rank_max (Some way.MappedSmaller) (Some way.Accepted) = refl
+rank_max (Some way.MappedSmaller) (Some way.Absent) = refl
+rank_max (Some way.Accepted) None = refl
+rank_max (Some way.Accepted) (Some way.MappedSmaller) = refl
+rank_max (Some way.Accepted) (Some way.Accepted) = refl
+rank_max (Some way.Accepted) (Some way.Absent) = refl
+rank_max (Some way.Absent) None = refl
+rank_max (Some way.Absent) (Some way.MappedSmaller) = refl
+rank_max (Some way.Absent) (Some way.Accepted) = refl
+rank_max (Some way.Absent) (Some way.Absent) = refl
 
 -- the first that fits, where each test is joined to those before it
 first_fits : (x y z a b c : Bool) → x ≡ a → (x || y) ≡ b → (x || (y || z)) ≡ c → (u v w : ℕ) → cond a u (cond b v (cond c w 0)) ≡ cond x u (cond y v (cond z w 0))
@@ -157,11 +193,11 @@ module _ (f c : ℕ) (L : List ℕ) (l a : ℕ) where
     same : (test : ℕ → Bool) → some_of (λ p. test (byte_of f c L p)) page span ≡ some_of (λ i. test (get_or L i 0)) (page - f) span
     same test = some_like (λ p. test (byte_of f c L p)) (λ i. test (get_or L i 0)) page (page - f) span (λ k h. ap test (at k h))
 
-    highest_by : (k : ℕ) (test : ℕ → Bool) → 0 < k → ((b : ℕ) → test b ≡ leb k (obstacle l b))
+    highest_by : (k : ℕ) (test : ℕ → Bool) → 0 < k → ((b : ℕ) → test b ≡ leb k (weight l b))
         → some_of (λ p. test (byte_of f c L p)) page span ≡ leb k (highest l L (page - f) span)
     highest_by k test h e =
         same test
-        ∙ some_like (λ i. test (get_or L i 0)) (λ i. leb k (obstacle l (get_or L i 0))) (page - f) (page - f) span (λ j _. e (get_or L (page - f + j) 0))
+        ∙ some_like (λ i. test (get_or L i 0)) (λ i. leb k (weight l (get_or L i 0))) (page - f) (page - f) span (λ j _. e (get_or L (page - f + j) 0))
         ∙ some_highest l L k (page - f) span h
 
     pub reply_inside : Valid l a → reply_to (highest l L (page - f) span) ≡ map_reply f c L (accepting l a)
@@ -199,76 +235,97 @@ module _ (f c m p n : ℕ) where
     pub from : i ≡ p - f
     pub end : e ≡ p - f + n
 
-  pub block_some : (i e : ℕ) → block_bytes f c m p n ≡ Some (i, e) → Inside i e
-  block_some i e h =
+  pub block_some : (r : Range ℕ) → block_bytes f c m p n ≡ Some r → Inside r.start r.end
+  block_some r h =
       elim (cases_Bool (leb f p && leb (p - f + n) (min c m))) [
         | inl t ↦
             let b = and_parts (leb f p) (leb (p - f + n) (min c m)) t in
-            let is : ◌≡◌ {A = Option (ℕ × ℕ)} (Some (p - f, p - f + n)) (Some (i, e)) = rw t at h in
-            let pair : ◌≡◌ {A = ℕ × ℕ} (i, e) (p - f, p - f + n) = cc in
+            let is : ◌≡◌ {A = Option (Range ℕ)} (Some (record { start = p - f; end = p - f + n })) (Some r) = rw t at h in
             record {
               over = leb-true f p b.0;
               under = leb-true (p - f + n) (min c m) b.1;
-              from = ap (λ (x : ℕ × ℕ). x.0) pair;
-              end = ap (λ (x : ℕ × ℕ). x.1) pair;
+              from = cc;
+              end = cc;
             }
-        | inr t ↦ let is : ◌≡◌ {A = Option (ℕ × ℕ)} None (Some (i, e)) = rw t at h in let z : ◌≡◌ {A = ℕ} 0 1 = cc in absurd (omega arith)
+        | inr t ↦ let is : ◌≡◌ {A = Option (Range ℕ)} None (Some r) = rw t at h in let z : ◌≡◌ {A = ℕ} 0 1 = cc in absurd (omega arith)
       ]
 
   pub block_none : block_bytes f c m p n ≡ None → (p < f) ⊎ (min c m < p - f + n)
   block_none h =
       elim (cases_Bool (leb f p && leb (p - f + n) (min c m))) [
-        | inl t ↦ let is : ◌≡◌ {A = Option (ℕ × ℕ)} (Some (p - f, p - f + n)) None = rw t at h in let z : ◌≡◌ {A = ℕ} 0 1 = cc in absurd (omega arith)
+        | inl t ↦ let is : ◌≡◌ {A = Option (Range ℕ)} (Some (record { start = p - f; end = p - f + n })) None = rw t at h in let z : ◌≡◌ {A = ℕ} 0 1 = cc in absurd (omega arith)
         | inr t ↦ ⊎_elim (λ x. inl (leb-false f p x)) (λ x. inr (leb-false (p - f + n) (min c m) x)) (and_cases (leb f p) (leb (p - f + n) (min c m)) t)
       ]
 
--- the clauses of one request, by the way that it takes
-module _ (f c : ℕ) (L : List ℕ) (l a r : ℕ) where
-  pub record Taken (M : List ℕ) : Type 0 where
-    pub bytes : M ≡ map_next f c L (accepting l a)
-    pub answer : r ≡ map_replies f c L [] (accepting l a)
-    pub lent : map_after f c M ≡ later (accepting l a) (map_after f c L)
-    pub later : map_replies f c M ≡ later (accepting l a) (map_replies f c L)
-    pub after : map_pages f c M ≡ taken r (accepting l a) (map_pages f c L)
+-- the answers of one request, by the way that it takes
+abbrev pub told : Option Obstacle → Result (Unit {0}) TdCallError
+told None = Ok tt
+told (Some o) = Err (error_for o)
 
-  by_bytes : (M : List ℕ) → r ≡ map_reply f c L (accepting l a) → M ≡ map_next f c L (accepting l a) → Taken M
-  by_bytes M e b =
+told_by : (o : Option Obstacle) → encoded (told o) ≡ reply_to (rank o)
+told_by None = refl
+told_by (Some way.MappedSmaller) = refl
+told_by (Some way.Accepted) = refl
+told_by (Some way.Absent) = refl
+
+-- an obstacle is no success
+error_some : (w : Obstacle) → status_of (error_for w) ≡ 0 → ⊥
+error_some way.MappedSmaller e = omega arith
+error_some way.Accepted e = omega arith
+error_some way.Absent e = omega arith
+
+pub level_low : (p : PageLevel) → level_number p ≤ 2
+level_low L1_4K = omega arith
+level_low L2_2M = omega arith
+level_low L3_1G = omega arith
+
+pub power_some : (l : ℕ) → 0 < 512 ^ l
+power_some l = omega (arith, one-le-pow l 512 (omega arith))
+
+-- a pass over the bytes of a block, lent as a slice of their own
+pub highest_part : (l : ℕ) (L : List ℕ) (i j : ℕ) → i ≤ j → j ≤ length L
+    → highest l (take (j - i) (drop i L)) 0 (length (take (j - i) (drop i L))) ≡ highest l L i (j - i)
+highest_part l L i j lo hi =
+    let many : length (take (j - i) (drop i L)) ≡ j - i = omega (arith, length-take (j - i) (drop i L), length-drop i L) in
+    rw many (highest_like l (take (j - i) (drop i L)) L 0 i (j - i) (λ k h. let zero_more : 0 + k ≡ k = omega arith in rw zero_more (get_or-take (j - i) (drop i L) k 0 h ∙ get_or-drop i L k 0)))
+
+-- the two clauses of a request, by the way that it takes
+module _ (f c : ℕ) (L : List ℕ) (l a : ℕ) where
+  -- an error leaves the bytes
+  pub refused : (e : TdCallError) → status_of e ≡ map_reply f c L (accepting l a) → (status_of e ≡ 0 → ⊥)
+      → (encoded (Err e) ≡ map_reply f c L (accepting l a)) × (L ≡ map_next f c L (accepting l a))
+  refused e is some = (is, sym (next_other f c L l a (λ z. some (is ∙ z))))
+
+  -- a block that lies in the map at the places i to j - 1 of its bytes, and what stands in its way
+  pub record Laid (i j : ℕ) (o : Option Obstacle) : Type 0 where
+    pub valid : Valid l a
+    pub block : Inside f c (length L) (a / 4096) (512 ^ l) i j
+    pub is : rank o ≡ highest l L i (j - i)
+
+  pub laid : (p : PageLevel) (s n : ℕ) (r : Range ℕ) (o : Option Obstacle) → level_number p ≡ l → s ≡ size (level_number p) → a % s ≡ 0 → n ≡ 512 ^ level_number p
+      → block_bytes f c (length L) (a / 4096) n ≡ Some r
+      → rank o ≡ highest (level_number p) (take (r.end - r.start) (drop r.start L)) 0 (length (take (r.end - r.start) (drop r.start L))) → Laid r.start r.end o
+  laid p s n r o level size_is aligned power some is =
+      let block : Inside f c (length L) (a / 4096) (512 ^ l) r.start r.end = rw (power, level) at (block_some f c (length L) (a / 4096) n r some) in
       record {
-        bytes = b;
-        answer = stepped_now (map_reply f c) (map_next f c) L (accepting l a) r e;
-        later = stepped_later (map_reply f c) (map_next f c) L M (accepting l a) b;
-        after = ap (map_pages f c) b ∙ rw e (map_past f c L (accepting l a));
-        lent = stepped_later (λ (K : List ℕ). K) (map_next f c) L M (accepting l a) b;
+        valid = record { low = rw level at (level_low p); aligned = rw (size_is, level) at aligned };
+        block = block;
+        is = rw level at (is ∙ highest_part (level_number p) L r.start r.end (omega (arith, block.from, block.end)) (omega (arith, block.end, block.under)));
       }
 
-  pub refused : r ≡ map_reply f c L (accepting l a) → (r ≡ 0 → ⊥) → Taken L
-  refused e h = by_bytes L e (sym (next_other f c L l a (λ z. h (e ∙ z))))
+  module _ (i j : ℕ) (o : Option Obstacle) (t : Laid i j o) where
+    answered : encoded (told o) ≡ map_reply f c L (accepting l a)
+    answered =
+        let block = t.block in
+        let many : j - i ≡ 512 ^ l = omega (arith, block.from, block.end) in
+        let bytes : highest l L i (j - i) ≡ highest l L (a / 4096 - f) (512 ^ l) = rw (many, block.from) in
+        told_by o ∙ ap reply_to (t.is ∙ bytes) ∙ reply_inside f c L l a block.over block.under t.valid
 
-  pub above : 2 < l → r ≡ status_of TdxOperandInvalid → Taken L
-  above h e = refused (e ∙ reply_level f c L l a h) (λ z. omega arith)
+    pub found : (w : Obstacle) → o ≡ Some w → (status_of (error_for w) ≡ map_reply f c L (accepting l a)) × (L ≡ map_next f c L (accepting l a))
+    found w e = refused (error_for w) (rw e at answered) (error_some w)
 
-  module _ (n : ℕ) (low : l ≤ 2) (some : 0 < n) (power : n ≡ 512 ^ l) where
-    pub misaligned : (a % (4096 * n) ≡ 0 → ⊥) → r ≡ status_of TdxOperandInvalid → Taken L
-    misaligned h e = refused (e ∙ reply_address f c L l a (rw power at h)) (λ z. omega arith)
-
-    module _ (aligned : a % (4096 * n) ≡ 0) where
-      valid : Valid l a
-      valid = record { low = low; aligned = rw power at aligned }
-
-      pub outside : block_bytes f c (length L) (a / 4096) n ≡ None → r ≡ status_of TdxOperandAddrRangeError → Taken L
-      outside h e = refused (e ∙ reply_outside f c L l a valid (rw power at some) (rw power at (block_none f c (length L) (a / 4096) n h))) (λ z. omega arith)
-
-      module _ (i j : ℕ) (block : Inside f c (length L) (a / 4096) n i j) (is : r ≡ reply_to (highest l L i (j - i))) where
-        bytes : highest l L i (j - i) ≡ highest l L (a / 4096 - f) (512 ^ l)
-        bytes = let many : j - i ≡ n = omega (arith, block.from, block.end) in rw (many, block.from, power)
-
-        answered : r ≡ map_reply f c L (accepting l a)
-        answered = is ∙ ap reply_to bytes ∙ reply_inside f c L l a block.over (rw power at block.under) valid
-
-        pub kept : (r ≡ 0 → ⊥) → Taken L
-        kept h = refused answered h
-
-        pub granted : r ≡ 0 → (M : List ℕ) → length M ≡ length L → ((k : ℕ) → get_or M k 0 ≡ cond (leb i k && ltb k j) 4 (get_or L k 0)) → Taken M
-        granted z M e h =
-            by_bytes M answered
-            (written f c L l a M block.over e (rw (block.from, block.end, power) at h) ∙ sym (next_zero f c L l a (sym answered ∙ z)))
+    pub granted : o ≡ None → (M : List ℕ) → length M ≡ length L → ((k : ℕ) → get_or M k 0 ≡ cond (leb i k && ltb k j) 4 (get_or L k 0))
+        → (0 ≡ map_reply f c L (accepting l a)) × (M ≡ map_next f c L (accepting l a))
+    granted none M e h =
+        let zero_is : 0 ≡ map_reply f c L (accepting l a) = rw none at answered in
+        (zero_is, written f c L l a M t.block.over e (rw (t.block.from, t.block.end) at h) ∙ sym (next_zero f c L l a (sym zero_is)))

@@ -1,3 +1,3 @@
 pub mod Checks
 pub mod Blocks
-pub mod Obstacles
+pub mod MapPages

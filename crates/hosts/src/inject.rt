@@ -1,15 +1,15 @@
 // Inject over any host: a list of words, one for each request; a word that is neither zero nor of class already accepted is
-// the reply, and any other passes the request on. It makes a host of any temper that still shows every law.
-ghost use Rattle.host.specs.Pages.{accepting, taken};
-ghost use Rattle.host.specs.Replies.{later};
-ghost use Rattle.host_models.proofs.Inject.{inject_sounds};
-ghost use Rattle.host_models.specs.Inject.{inject_lent, inject_replies, is_reply, next_word};
+// the reply, and any other passes the request on. It makes a host that replies anything at chosen requests, and still shows every law.
 ghost use Rattle.std.specs.Prelude.{◌≡◌, [], drop};
+ghost use Rattle.host.proofs.Layers.{layer_sounds};
+ghost use Rattle.host.specs.Layers.{layered};
+ghost use Rattle.host_models.proofs.Inject.{inject_lawful};
+ghost use Rattle.host_models.specs.Inject.{injecting, is_reply};
 
-use host::Host;
-use tdcall::TdCallError;
+use host::{Block, Host};
+use tdcall::{TdCallError, decode};
 
-#[derive(Drop)]
+#[derive(Debug, Drop)]
 pub struct Inject<'a, L> {
     words: &'a [u64],
     used: usize,
@@ -43,59 +43,28 @@ impl<'a, L> Inject<'a, L> {
     }
 }
 
-// The next word, zero when all are used, and how many are used then.
-fn next_word(words: &[u64], used: usize) -> (u64, usize)
-    ensures word { result.0 ≡ next_word (drop used words.now) }
-    ensures left { drop result.1 words.now ≡ drop 1 (drop used words.now) }
-{
-    if used < words.len() {
-        (words[used], used + 1)
-    } else {
-        (0, used)
-    }
-}
-
 // Is a word a reply itself?
 fn is_reply(word: u64) -> bool
     ensures { result ≡ is_reply word }
 {
-    word != 0 && word >> 32 != TdCallError::TdxPageAlreadyAccepted.class()
-}
-
-// Takes the next word, makes the request of the host below unless the word is a reply itself, and answers the reply.
-fn request_injected<L: Host>(
-    words: &[u64],
-    used: &mut usize,
-    below: &mut L,
-    level: u8,
-    address: u64,
-) -> u64
-    ensures answer { result ≡ inject_replies (drop used.old words.now) (L.replies below.old) [] (accepting level address) }
-    ensures later { inject_replies (drop used.new words.now) (L.replies below.new) ≡ later (accepting level address) (inject_replies (drop used.old words.now) (L.replies below.old)) }
-    ensures after { L.pages below.new ≡ taken result (accepting level address) (L.pages below.old) }
-    ensures lent { inject_lent (drop used.new words.now) (L.replies below.new) (L.lent below.new) ≡ later (accepting level address) (inject_lent (drop used.old words.now) (L.replies below.old) (L.lent below.old)) }
-    ensures fixed { L.fixed below.new ≡ L.fixed below.old }
-{
-    let (word, after) = next_word(words, *used);
-    *used = after;
-    if is_reply(word) {
-        return word;
-    }
-    below.accept(level, address)
+    !matches!(
+        decode(word),
+        Ok(()) | Err(TdCallError::TdxPageAlreadyAccepted)
+    )
 }
 
 impl<L: Host> Host for Inject<'_, L> {
-    ghost pages = { λ s. L.Host.pages s.below };
+    ghost state = { λ s. layered injecting (drop s.used s.words.now) [] (L.Host.state s.below) };
 
-    ghost replies = { λ s. inject_replies (drop s.used s.words.now) (L.Host.replies s.below) };
+    ghost sound = { λ s. layer_sounds injecting inject_lawful (drop s.used s.words.now) (L.Host.state s.below).replies (L.Host.state s.below).pages (L.Host.sound s.below) };
 
-    ghost lent = { λ s. inject_lent (drop s.used s.words.now) (L.Host.replies s.below) (L.Host.lent s.below) };
-
-    ghost fixed = { λ s. L.Host.fixed s.below };
-
-    ghost sound = { λ s. inject_sounds (drop s.used s.words.now) (L.Host.replies s.below) (L.Host.pages s.below) (L.Host.sound s.below) };
-
-    fn accept(&mut self, level: u8, address: u64) -> u64 {
-        request_injected(self.words, &mut self.used, &mut self.below, level, address)
+    fn accept(&mut self, block: Block) -> u64 {
+        if let Some(word) = self.words.get(self.used) {
+            self.used += 1;
+            if is_reply(*word) {
+                return *word;
+            }
+        }
+        self.below.accept(block)
     }
 }

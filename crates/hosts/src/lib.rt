@@ -6,17 +6,16 @@ ghost use Rattle.host_models.specs.Inject.{InjectLaw};
 ghost use Rattle.host_models.specs.Map.{MapLaw};
 ghost use Rattle.host_models.specs.Retry.{RetryLaw};
 
+pub mod at_most;
 pub mod cap;
 pub mod inject;
 pub mod map;
 pub mod retry;
 
 // What each host does with every request, as a law in words: it holds of the definitions that the hosts' replies are told by.
-pub fn laws() -> u8
+pub fn laws()
     ensures map { MapLaw }
     ensures cap { CapLaw }
     ensures retry { RetryLaw }
     ensures inject { InjectLaw }
-{
-    4
-}
+{}

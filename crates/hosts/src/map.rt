@@ -1,33 +1,135 @@
 // A map of pages over the caller's bytes: one byte a page, 0 absent, 1, 2, 3 pending and mapped at level 0, 1, 2, 4 accepted;
 // any other reads as 0.
-ghost use Rattle.std.specs.Prelude.{◌≡◌, ℕ, ◌+◌, ◌-◌, ◌*◌, ◌/◌, ◌%◌, ◌^◌, ◌<◌, ◌≤◌, ◌&&◌, [], ◌∷◌, length, if◌then◌else◌, nat_le, nat_lt, slice_index};
-ghost use Rattle.host.specs.Pages.{accepting, taken};
-ghost use Rattle.host.specs.Replies.{later};
+ghost use Rattle.std.specs.Prelude.{◌≡◌, ℕ, ◌+◌, ◌-◌, ◌/◌, ◌<◌, ◌≤◌, ◌&&◌, length, Some, if◌then◌else◌, nat_le, nat_lt, slice_index};
+ghost use Rattle.host.specs.Levels.{level_number};
+ghost use Rattle.host.specs.Pages.{accepting};
 ghost use Rattle.host_models.proofs.Map.{map_sounds};
-ghost use Rattle.host_models.specs.Map.{map_after, map_next, map_pages, map_replies};
+ghost use Rattle.host_models.specs.Map.{map_next, map_reply, map_state};
 ghost use Rattle.hosts.specs.Blocks.{block_bytes};
-ghost use Rattle.hosts.specs.Checks.{checked_shape, viewed};
-ghost use Rattle.hosts.specs.Obstacles.{highest, obstacle, reply_to};
+ghost use Rattle.hosts.specs.Checks.{checked_shape};
+ghost use Rattle.hosts.specs.MapPages.{error_for, highest, map_page, obstacle_to, page_byte, page_name, rank};
+ghost use Rattle.tdcall.specs.Statuses.{encoded};
 
 use fault::AcceptError;
-use host::Host;
-use tdcall::TdCallError;
+use host::page_level::PageLevel;
+use host::{Block, Host};
+use std::fmt;
+use std::marker::Model;
+use std::ops::Range;
+use tdcall::{TdCallError, encode};
 
 const ACCEPTED: u8 = 4;
 
+// What a byte says of its page.
+#[derive(Clone, Copy, Debug, PartialEq, Eq)]
+pub enum MapPage {
+    Absent,
+    // Pending, and mapped at a level.
+    Pending(PageLevel),
+    Accepted,
+}
+
+impl From<u8> for MapPage {
+    ghost from_gives = { λ b r. r ≡ map_page b };
+
+    fn from(byte: u8) -> MapPage {
+        match byte {
+            1 => MapPage::Pending(PageLevel::L1_4K),
+            2 => MapPage::Pending(PageLevel::L2_2M),
+            3 => MapPage::Pending(PageLevel::L3_1G),
+            ACCEPTED => MapPage::Accepted,
+            _ => MapPage::Absent,
+        }
+    }
+}
+
+// The byte that says a page.
+impl From<MapPage> for u8 {
+    ghost from_gives = { λ p r. (r ≡ page_byte p) × (map_page r ≡ p) };
+
+    fn from(page: MapPage) -> u8 {
+        match page {
+            MapPage::Absent => 0,
+            MapPage::Pending(level) => level.number() + 1,
+            MapPage::Accepted => ACCEPTED,
+        }
+    }
+}
+
+// A page is printed by its state, a pending one with the size that it is mapped at.
+impl fmt::Display for MapPage {
+    ghost output = { λ p. Some (page_name p) };
+
+    fn fmt<W: fmt::Write>(&self, f: &mut fmt::Formatter<W>) -> fmt::Result {
+        match self {
+            MapPage::Absent => f.write_str("absent"),
+            MapPage::Pending(level) => write!(f, "pending, mapped at {level}"),
+            MapPage::Accepted => f.write_str("accepted"),
+        }
+    }
+}
+
+// What stands in the way of accepting a page; of several in a block, the highest gives the reply.
+#[derive(Clone, Copy, Debug, PartialEq, Eq, PartialOrd, Ord)]
+enum Obstacle {
+    // It is mapped below the level.
+    MappedSmaller,
+    Accepted,
+    Absent,
+}
+
+// The error that tells an obstacle.
+impl From<Obstacle> for TdCallError {
+    ghost from_gives = { λ o r. r ≡ error_for o };
+
+    fn from(obstacle: Obstacle) -> TdCallError {
+        match obstacle {
+            Obstacle::MappedSmaller => TdCallError::TdxPageSizeMismatch,
+            Obstacle::Accepted => TdCallError::TdxPageAlreadyAccepted,
+            Obstacle::Absent => TdCallError::TdxOperandAddrRangeError,
+        }
+    }
+}
+
+impl MapPage {
+    // What stands in the way of accepting the page at a level.
+    fn obstacle(self, level: PageLevel) -> Option<Obstacle>
+        ensures { result ≡ obstacle_to (level_number level) self }
+    {
+        match self {
+            MapPage::Absent => Some(Obstacle::Absent),
+            MapPage::Accepted => Some(Obstacle::Accepted),
+            MapPage::Pending(mapped) if mapped < level => Some(Obstacle::MappedSmaller),
+            MapPage::Pending(_) => None,
+        }
+    }
+}
+
 // Where a map lies: its first address, a multiple of 4096, and how many pages it has, with its end below 2^64.
-#[derive(Clone, Copy)]
+#[derive(Clone, Copy, Debug, PartialEq, Eq)]
 pub struct MapShape {
     base: u64,
     count: u64,
-    ghost aligned: { base % 4096 ≡ 0 },
-    ghost ends: { base + 4096 * count < 2 ^ 64 },
+}
+
+// Clauses see the two numbers.
+impl Model for MapShape {
+    ghost use Rattle.std.specs.Prelude.{◌≡◌, ◌+◌, ◌*◌, ◌%◌, ◌^◌, ◌<◌};
+    ghost use Rattle.hosts.specs.Checks.{Extent};
+
+    ghost Value = { Extent };
+
+    ghost view = { λ s. record { base = s.base; count = s.count } };
+
+    ghost invariant = { λ s. (s.base % 4096 ≡ 0) × (s.base + 4096 * s.count < 2 ^ 64) };
+
+    ghost inverse = { λ e. record { base = e.base; count = e.count } };
 }
 
 impl MapShape {
     // Refuses a base that is no multiple of 4096, and an end of 2^64 or more.
     pub fn new(base: u64, count: u64) -> Result<MapShape, AcceptError>
-        ensures { viewed (λ s. (s.base, s.count)) result ≡ checked_shape base count }
+        ensures { result ≡ checked_shape base count }
     {
         if base % 4096 != 0 || count > (u64::MAX - base) / 4096 {
             return Err(AcceptError::BadHost);
@@ -36,7 +138,7 @@ impl MapShape {
     }
 }
 
-#[derive(Drop)]
+#[derive(Debug, Drop)]
 pub struct MapHost<'a> {
     // the number of the first page
     first: u64,
@@ -65,22 +167,8 @@ impl<'a> MapHost<'a> {
     }
 }
 
-// How many pages a block of a level has.
-fn block_pages(level: u8) -> u64
-    requires { level ≤ 2 }
-    ensures power { result ≡ 512 ^ level }
-    ensures some { 0 < result }
-    ensures bound { result ≤ 262144 }
-{
-    match level {
-        0 => 1,
-        1 => 512,
-        _ => 262144,
-    }
-}
-
 // The first byte of a block and the byte behind its last, or none if a page of the block is outside the map.
-fn block_bytes(first: u64, count: u64, held: usize, page: u64, span: u64) -> Option<(usize, usize)>
+fn block_bytes(first: u64, count: u64, held: usize, page: u64, span: u64) -> Option<Range<usize>>
     requires { span ≤ 262144 }
     ensures { result ≡ block_bytes first count held page span }
 {
@@ -89,96 +177,49 @@ fn block_bytes(first: u64, count: u64, held: usize, page: u64, span: u64) -> Opt
         return None;
     }
     let from = (page - first) as usize;
-    Some((from, from + span as usize))
+    Some(from..from + span as usize)
 }
 
-// What stands in the way of accepting a page at a level, by its byte.
-fn page_obstacle(level: u8, byte: u8) -> u8
-    ensures { result ≡ obstacle level byte }
+// The highest obstacle among the pages of some bytes.
+fn highest_obstacle(bytes: &[u8], level: PageLevel) -> Option<Obstacle>
+    ensures { rank result ≡ highest (level_number level) bytes.now 0 (length bytes.now) }
 {
-    match byte {
-        ACCEPTED => 2,
-        1..=3 if byte <= level => 1,
-        1..=3 => 0,
-        _ => 3,
-    }
-}
-
-// The highest obstacle among the bytes from one to the one before another.
-fn highest_obstacle(bytes: &[u8], level: u8, from: usize, end: usize) -> u8
-    requires { (from ≤ end) × (end ≤ length bytes.now) }
-    ensures { result ≡ highest level bytes.now from (end - from) }
-{
-    let mut most: u8 = 0;
-    let mut i = from;
-    while i < end {
-        most = most.max(page_obstacle(level, bytes[i]));
-        i += 1;
+    let mut most = None;
+    for byte in bytes {
+        most = most.max(MapPage::from(*byte).obstacle(level));
     }
     most
 }
 
-// The reply that the highest obstacle gives.
-fn reply_to(most: u8) -> u64
-    ensures { result ≡ reply_to most }
+// Accepts a block on the bytes of a map, or refuses it and changes none.
+fn accept_in_map(first: u64, count: u64, bytes: &mut [u8], block: Block) -> Result<(), TdCallError>
+    ensures answer { encoded result ≡ map_reply first count bytes.old (accepting block.level block.address) }
+    ensures bytes { bytes.new ≡ map_next first count bytes.old (accepting block.level block.address) }
 {
-    match most {
-        0 => 0,
-        1 => TdCallError::TdxPageSizeMismatch.status(),
-        2 => TdCallError::TdxPageAlreadyAccepted.status(),
-        _ => TdCallError::TdxOperandAddrRangeError.status(),
-    }
-}
-
-// Makes the bytes accepted, from one to the one before another.
-fn accept_bytes(bytes: &mut [u8], from: usize, end: usize)
-    requires { (from ≤ end) × (end ≤ length bytes.old) }
-    ensures { (k : ℕ) → slice_index bytes.new k ≡ (if nat_le from k && nat_lt k end then 4 else slice_index bytes.old k) }
-{
-    let mut next = from;
-    while next < end {
-        bytes[next] = ACCEPTED;
-        next += 1;
-    }
-}
-
-// Takes one request on the bytes of a map, and answers the reply.
-fn accept_in_map(first: u64, count: u64, bytes: &mut [u8], level: u8, address: u64) -> u64
-    ensures bytes { bytes.new ≡ map_next first count bytes.old (accepting level address) }
-    ensures answer { result ≡ map_replies first count bytes.old [] (accepting level address) }
-    ensures later { map_replies first count bytes.new ≡ later (accepting level address) (map_replies first count bytes.old) }
-    ensures after { map_pages first count bytes.new ≡ taken result (accepting level address) (map_pages first count bytes.old) }
-    ensures lent { map_after first count bytes.new ≡ later (accepting level address) (map_after first count bytes.old) }
-{
-    if level > 2 {
-        return TdCallError::TdxOperandInvalid.status();
-    }
-    let span = block_pages(level);
-    if address % (4096 * span) != 0 {
-        return TdCallError::TdxOperandInvalid.status();
-    }
-    let Some((from, end)) = block_bytes(first, count, bytes.len(), address / 4096, span) else {
-        return TdCallError::TdxOperandAddrRangeError.status();
+    let Ok(level) = PageLevel::try_from(block.level) else {
+        return Err(TdCallError::TdxOperandInvalid);
     };
-    let reply = reply_to(highest_obstacle(bytes, level, from, end));
-    if reply == 0 {
-        accept_bytes(bytes, from, end);
+    if block.address % level.bytes() != 0 {
+        return Err(TdCallError::TdxOperandInvalid);
     }
-    reply
+    let page = block.address / 4096;
+    let Some(places) = block_bytes(first, count, bytes.len(), page, level.pages()) else {
+        return Err(TdCallError::TdxOperandAddrRangeError);
+    };
+    let part = &mut bytes[places];
+    if let Some(obstacle) = highest_obstacle(part, level) {
+        return Err(obstacle.into());
+    }
+    part.fill(ACCEPTED);
+    Ok(())
 }
 
 impl Host for MapHost<'_> {
-    ghost pages = { λ s. map_pages s.first s.count s.pages.now };
-
-    ghost replies = { λ s. map_replies s.first s.count s.pages.now };
-
-    ghost lent = { λ s. map_after s.first s.count s.pages.now };
-
-    ghost fixed = { λ s. s.first ∷ s.count ∷ s.pages.ghost_name ∷ [] };
+    ghost state = { λ s. map_state s.first s.count s.pages.ghost_name s.pages.now };
 
     ghost sound = { λ s. map_sounds s.first s.count s.pages.now };
 
-    fn accept(&mut self, level: u8, address: u64) -> u64 {
-        accept_in_map(self.first, self.count, self.pages, level, address)
+    fn accept(&mut self, block: Block) -> u64 {
+        encode(accept_in_map(self.first, self.count, self.pages, block))
     }
 }

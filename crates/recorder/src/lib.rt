@@ -3,20 +3,19 @@
 
 ghost use Rattle.std.specs.Prelude.{◌≡◌, true, [], ◌∷◌, ◌++◌, if◌then◌else◌};
 
-use host::Host;
+use host::{Block, Host};
 use std::alloc::Global;
 
 pub mod runs;
 
-// A request and its reply.
-#[derive(Clone, Copy)]
+// A request to accept a block, and its reply.
+#[derive(Clone, Copy, Debug, PartialEq, Eq)]
 pub struct Exchange {
-    pub level: u8,
-    pub address: u64,
+    pub block: Block,
     pub status: u64,
 }
 
-#[derive(Drop)]
+#[derive(Debug, Drop)]
 pub struct Recorder<L> {
     exchanges: Vec<Exchange>,
     // whether every exchange found memory
@@ -61,32 +60,20 @@ impl<L> Recorder<L> {
 }
 
 // Adds an exchange, and answers whether there was memory for it.
-fn kept(exchanges: &mut Vec<Exchange>, level: u8, address: u64, status: u64) -> bool
-    ensures { exchanges.new.items ≡ (if result then (exchanges.old.items ++ record { level = level; address = address; status = status } ∷ []) else exchanges.old.items) }
+fn kept(exchanges: &mut Vec<Exchange>, exchange: Exchange) -> bool
+    ensures { exchanges.new.items ≡ (if result then (exchanges.old.items ++ exchange ∷ []) else exchanges.old.items) }
 {
-    exchanges
-        .push(Exchange {
-            level,
-            address,
-            status,
-        })
-        .is_ok()
+    exchanges.push(exchange).is_ok()
 }
 
 impl<L: Host> Host for Recorder<L> {
-    ghost pages = { λ s. L.Host.pages s.below };
-
-    ghost replies = { λ s. L.Host.replies s.below };
-
-    ghost lent = { λ s. L.Host.lent s.below };
-
-    ghost fixed = { λ s. L.Host.fixed s.below };
+    ghost state = { λ s. L.Host.state s.below };
 
     ghost sound = { λ s. L.Host.sound s.below };
 
-    fn accept(&mut self, level: u8, address: u64) -> u64 {
-        let status = self.below.accept(level, address);
-        let complete = self.complete && kept(&mut self.exchanges, level, address, status);
+    fn accept(&mut self, block: Block) -> u64 {
+        let status = self.below.accept(block);
+        let complete = self.complete && kept(&mut self.exchanges, Exchange { block, status });
         self.complete = complete;
         status
     }

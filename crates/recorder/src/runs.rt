@@ -4,6 +4,7 @@ ghost use Rattle.recorder.specs.Chains.{goes_on, level_bytes};
 ghost use Rattle.recorder.specs.Runs.{RunEnd};
 
 use super::Exchange;
+use host::page_level::PageLevel;
 
 // What may go on from another of its kind.
 pub trait Chain {
@@ -18,14 +19,13 @@ pub trait Chain {
 pub fn run_end<T: Chain>(items: &[T], from: usize) -> usize
     ensures { RunEnd T.chained items.now from result }
 {
-    if from >= items.len() {
+    let Some(rest) = items.get(from..) else {
         return from;
+    };
+    match rest.chunk_by(|before, item| item.follows(before)).next() {
+        Some(first) => from + first.len(),
+        None => from,
     }
-    let mut end = from + 1;
-    while end < items.len() && items[end].follows(&items[end - 1]) {
-        end += 1;
-    }
-    end
 }
 
 // A byte goes on from an equal one.
@@ -33,7 +33,7 @@ impl Chain for u8 {
     ghost chained = { nat_eq };
 
     fn follows(&self, before: &u8) -> bool {
-        *self == *before
+        self == before
     }
 }
 
@@ -42,10 +42,10 @@ impl Chain for Exchange {
     ghost chained = { goes_on };
 
     fn follows(&self, before: &Exchange) -> bool {
-        self.level == before.level
+        self.block.level == before.block.level
             && self.status == before.status
-            && self.address >= before.address
-            && self.address - before.address == level_bytes(before.level)
+            && self.block.address >= before.block.address
+            && self.block.address - before.block.address == level_bytes(before.block.level)
     }
 }
 
@@ -53,10 +53,5 @@ impl Chain for Exchange {
 fn level_bytes(level: u8) -> u64
     ensures { result ≡ level_bytes level }
 {
-    match level {
-        0 => 0x1000,
-        1 => 0x20_0000,
-        2 => 0x4000_0000,
-        _ => 0,
-    }
+    PageLevel::try_from(level).map_or(0, PageLevel::bytes)
 }

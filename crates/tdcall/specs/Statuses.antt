@@ -1,5 +1,5 @@
 -- The 64-bit status of a TDCALL: zero is success, and the upper 32 bits of any other are its class.
-use Rattle.std.specs.Prelude.{◌≡◌, ℕ, ◌*◌, ◌/◌, ◌^◌, cond, ◌⊎◌, List, [], ◌∷◌, Ok, Err, codes, Result, ◌==◌}
+use Rattle.std.specs.Prelude.{◌≡◌, ℕ, ◌*◌, ◌/◌, ◌^◌, if◌then◌else◌, ◌⊎◌, List, [], ◌∷◌, Ok, Err, codes, Result, ◌==◌}
 use Rattle.tdcall.specs.declared.TdCallError.{TdCallError}
 use Rattle.tdcall.specs.declared.TdCallError.TheVariants.{TdxNoValidVeInfo, TdxOperandInvalid, TdxOperandBusy, TdxPageAlreadyAccepted, TdxPageSizeMismatch, TdxMetadataFieldIdIncorrect, TdxMetadataFieldNotWritable, TdxMetadataFieldNotReadable, TdxMetadataFieldValueNotValid, TdxOpStateIncorrect, TdxOperandAddrRangeError, TdxPageMetadataIncorrect, TdxServtdInfoHashMismatch, TdxServtdNotBound, TdxServtdUuidMismatch, TdxTargetUuidMismatch, TdxTargetUuidUpdated, TdxTdFatal, TdxTdKeysNotConfigured, TdxTdcsNotAllocated, Other}
 
@@ -39,7 +39,7 @@ errors =
 -- the error of a list that a class names, or Other
 abbrev pub among : List TdCallError → ℕ → TdCallError
 among [] c = Other
-among (e ∷ es) c = cond (c == number e) e (among es c)
+among (e ∷ es) c = if c == number e then e else among es c
 
 -- the error that a class names
 abbrev pub named : ℕ → TdCallError
@@ -55,7 +55,12 @@ status_of e = number e * 2 ^ 32
 
 -- what a whole status says
 abbrev pub decoded : ℕ → Result (Unit {0}) TdCallError
-decoded s = cond (s == 0) (Ok tt) (Err (named (class_of s)))
+decoded s = if s == 0 then Ok tt else Err (named (class_of s))
+
+-- the status that says an answer
+abbrev pub encoded : Result (Unit {0}) TdCallError → ℕ
+encoded (Ok x) = 0
+encoded (Err e) = status_of e
 
 -- Each error is named by its class, so no two share one; a class that is not the error's that it names is Other's; and the
 -- status of each error says that error.

@@ -1,9 +1,10 @@
 -- The parts of a range that is registered make it up.
 use Rattle.std.proofs.Common.{◌≡◌, ℕ, ◌+◌, ◌-◌, ◌*◌, ◌/◌, ◌%◌, ◌<◌, ◌≤◌, min, max, ltb, ◌⊎◌, List, [], ◌∷◌, ◌∙◌, inl, inr, mod-lt, mod-eq_of_lt, div-lt_iff_lt-mul, add-mul, one-mul, arith}
+use Rattle.std.specs.Int.{next_multiple_of}
 use native.Mathlib.Nat.{mod-le, mod_self, mod-add-div', zero-div, dvd_of_mod-eq-zero, dvd-sub, div-mul_cancel, add-mul-mod_self_right, mul-mod_left}
 use Rattle.std.proofs.lemmas.Bool.{cases_lt, cases_eq, ltb-false, cond_both}
 use Rattle.efi_table.specs.declared.layout.Range.{Range}
-use Rattle.efi_table.specs.Layouts.{range, aligned_down, aligned_up}
+use Rattle.efi_table.specs.Layouts.{range, aligned_down}
 use Rattle.efi_table.specs.Shapes.{Shape, unit_at, units_of, covered_end}
 use Rattle.unaccepted_memory.specs.Plans.{addresses_of, Order, walking, marking}
 use Rattle.unaccepted_memory.specs.Calls.{inner_low, inner_high, inner_units, parts_of}
@@ -11,25 +12,25 @@ use Rattle.unaccepted_memory.specs.Promises.{Holds}
 use Rattle.unaccepted_memory.proofs.PlanLaws.{Held, here, there, Below}
 
 -- rounding up and down
-pub up_low : (x u : ℕ) → x ≤ aligned_up x u
+pub up_low : (x u : ℕ) → x ≤ next_multiple_of x u
 up_low x u = omega arith
 
-pub up_high : (x u : ℕ) → 0 < u → aligned_up x u < x + u
+pub up_high : (x u : ℕ) → 0 < u → next_multiple_of x u < x + u
 up_high x u some = omega (arith, mod-lt (u - x % u) some)
 
-pub up_even : (x u : ℕ) → 0 < u → aligned_up x u % u ≡ 0
+pub up_even : (x u : ℕ) → 0 < u → next_multiple_of x u % u ≡ 0
 up_even x u some =
     elim (cases_eq (x % u) 0) [
       | inl e ↦
           let d : u - x % u ≡ u = omega arith in
           let z : (u - x % u) % u ≡ 0 = rw d (mod_self u) in
-          let same : aligned_up x u ≡ x = omega arith in
+          let same : next_multiple_of x u ≡ x = omega arith in
           rw same e
       | inr e ↦
           let m = mod-lt x some in
           let z : (u - x % u) % u ≡ u - x % u = mod-eq_of_lt {n = u - x % u} {m = u} (omega arith) in
           let q : ℕ = x / u in
-          let whole : aligned_up x u ≡ (q + 1) * u = omega (arith, mod-add-div' x u, add-mul q 1 u, one-mul u) in
+          let whole : next_multiple_of x u ≡ (q + 1) * u = omega (arith, mod-add-div' x u, add-mul q 1 u, one-mul u) in
           rw whole (mul-mod_left (q + 1) u)
     ]
 

@@ -215,10 +215,6 @@ module _ (h : Shape) (R : Replies) (P : Pages) (ws : List ℕ) (n : ℕ) (so : S
   stays : (out : Outcome ℕ) (a : ℕ) → P₁ (a / 4096) ≡ accepted → Ends h R P (with_walk walk out) a
   stays out a e = later_ends out a (inl (after_keeps R₁ (requests_of out.walks) P₁ (a / 4096) e))
 
-  later_held : (a : ℕ) (X : Type 0) → X ⊎ Held h a os → X ⊎ Held h a (o ∷ os)
-  later_held a X (inl x) = inl x
-  later_held a X (inr i) = inr (there i)
-
   pub onward : (c : ℕ) → walk.answer ≡ Ok c → (ws' : List ℕ) (out : Outcome ℕ) → length ws' ≡ length ws
       → ((a : ℕ) → Marked h ws a → Marked h ws' a ⊎ Holds (area_of h o) a)
       → ((a : ℕ) → Marked h ws' a → Marked h ws a)

@@ -1,10 +1,11 @@
 -- Tables that are built and tables that are found.
 use Rattle.std.proofs.Common.{◌≡◌, ℕ, ◌+◌, ◌-◌, ◌*◌, ◌%◌, ◌^◌, ◌<◌, ◌≤◌, Bool, true, false, cond, not, ◌||◌, eqb, ltb, leb, List, length, get_or, Ok, Err, Result, refl, subst, arith}
+use Rattle.std.specs.Int.{is_power_of_two}
 use native.Mathlib.Nat.{mul-mod_right}
 use Rattle.std.proofs.lemmas.Bool.{not-false, or_parts, eqb-true, ltb-false}
 use Rattle.fault.specs.declared.AcceptError.{AcceptError}
 use Rattle.fault.specs.declared.AcceptError.TheVariants.{OutOfBounds, ArithmeticOverflow, WrongImage, BadVersion, BadUnit, BadBitmap, BadCoverage}
-use Rattle.efi_table.specs.Shapes.{Shape, shape, power_of_two, covered_end, bitmap_end}
+use Rattle.efi_table.specs.Shapes.{Shape, shape, covered_end, bitmap_end}
 use Rattle.efi_table.specs.Images.{version_in, unit_in, bad_length, decoded_from}
 use Rattle.efi_table.specs.Layouts.{built_shape, words_for}
 use Rattle.efi_entries.specs.Entries.{may_lie, pointer_in, whole, table_at}
@@ -43,7 +44,7 @@ read placed img h e =
     let n = get_or img 2 0 in
     let three = passed (ltb (length img) 3) WrongImage _ h e in
     let a = passed (not (eqb (version_in w) 1)) BadVersion _ h three.1 in
-    let b = passed (not (power_of_two (unit_in w))) BadUnit _ h a.1 in
+    let b = passed (not (is_power_of_two (unit_in w))) BadUnit _ h a.1 in
     let c = passed (not placed || bad_length n) BadBitmap _ h b.1 in
     let d = passed (leb (2 ^ 64) (covered_end (shape (unit_in w) (get_or img 1 0) n))) BadCoverage _ h c.1 in
     let version : w % 2 ^ 32 ≡ 1 = eqb-true _ _ (not-false _ a.0) in

@@ -1,13 +1,14 @@
 -- What each call on a table comes to, as a function of the table's numbers, its image, the host's replies from now on, and
 -- the arguments.
-use Rattle.std.specs.Prelude.{ℕ, ◌-◌, ◌*◌, ◌/◌, min, max, cond, List, [], ◌∷◌, map, Some, None, Ok, Err, Option, nat_lt}
+use Rattle.std.specs.Prelude.{ℕ, ◌-◌, ◌*◌, ◌/◌, min, max, if◌then◌else◌, List, [], ◌∷◌, map, Some, None, Ok, Err, Option, nat_lt}
+use Rattle.std.specs.Int.{next_multiple_of}
 use Rattle.std.specs.List.{between}
 use Rattle.fault.specs.Refusals.{Told}
 use Rattle.host.specs.Replies.{Replies}
 use Rattle.bitmap.specs.Marks.{marked, units_set, units_cleared}
 use Rattle.bitmap.specs.Parts.{with_part}
 use Rattle.efi_table.specs.declared.layout.Range.{Range}
-use Rattle.efi_table.specs.Layouts.{range, aligned_down, aligned_up}
+use Rattle.efi_table.specs.Layouts.{range, aligned_down}
 use Rattle.efi_table.specs.Shapes.{Shape, covered_end, bitmap_end, overlap_of}
 use Rattle.efi_table.specs.Images.{is_image}
 use Rattle.unaccepted_memory.specs.Runs.{Run, run, runs_in}
@@ -26,11 +27,11 @@ wrong_image = record { refusal = 6; reason = 0; layer = 3; status = 0; level = 0
 
 -- Every call first checks that the image is the table's. If it is not, the call is refused by 6 and does nothing.
 abbrev pub on_image : {A : Type 0} → Shape → List ℕ → (List ℕ → Outcome A) → Outcome A
-on_image h img f = cond (is_image h img) (in_image h img (f (bitmap_of h img))) (outcome (Err wrong_image) img [])
+on_image h img f = if is_image h img then in_image h img (f (bitmap_of h img)) else outcome (Err wrong_image) img []
 
 -- Registering a range. What lies between its edges begins and ends at multiples of the unit size.
 abbrev pub inner_low : Shape → Range → ℕ
-inner_low h s = aligned_up s.start h.unit
+inner_low h s = next_multiple_of s.start h.unit
 
 abbrev pub inner_high : Shape → Range → ℕ
 inner_high h s = aligned_down s.end h.unit
@@ -44,14 +45,14 @@ inner_units h s =
 -- back edge (3), then what lies before the base (4); the units inside are marked (5), and what lies behind them is walked (6).
 abbrev pub parts_of : Shape → Range → List Order
 parts_of h s =
-    cond (nat_lt (s.end - s.start) (2 * h.unit))
-    (walking 1 s ∷ [])
-    (walking 2 (range s.start (inner_low h s))
+    if nat_lt (s.end - s.start) (2 * h.unit)
+    then walking 1 s ∷ []
+    else walking 2 (range s.start (inner_low h s))
     ∷ walking 3 (range (inner_high h s) s.end)
     ∷ walking 4 (range (inner_low h s) (min (inner_high h s) h.base))
     ∷ marking (inner_units h s)
     ∷ walking 6 (range (max (inner_low h s) (covered_end h)) (inner_high h s))
-    ∷ [])
+    ∷ []
 
 -- It answers the number of requests. Where a unit inside is marked already, the refusal by 3 names unit u.
 abbrev pub register_in : Shape → Replies → Range → ℕ → List ℕ → Outcome ℕ

@@ -1,5 +1,5 @@
 -- A call as a plan: walks in order, with marks made between them, and runs of marks cleared once their walk has succeeded.
-use Rattle.std.specs.Prelude.{ℕ, ◌+◌, cond, List, [], ◌∷◌, ◌++◌, Ok, Err, Result, nat_lt}
+use Rattle.std.specs.Prelude.{ℕ, ◌+◌, if◌then◌else◌, List, [], ◌∷◌, ◌++◌, Ok, Err, Result, nat_lt}
 use Rattle.fault.specs.Refusals.{Told}
 use Rattle.host.specs.Pages.{Request}
 use Rattle.host.specs.Replies.{Replies, since}
@@ -79,12 +79,12 @@ with_walk w o = record { answer = o.answer; words = o.words; walks = w ∷ o.wal
 unfoldable pub performing : Shape → ℕ → Replies → List ℕ → ℕ → List Order → Outcome ℕ
 performing h u R ws n [] = outcome (Ok n) ws []
 performing h u R ws n (walking p s ∷ os) =
-    cond (nat_lt s.start s.end)
-    (with_walk (walk_over R s)
+    if nat_lt s.start s.end
+    then with_walk (walk_over R s)
     (going_on (walk_over R s).answer
     (λ c. performing h u (since (walk_over R s).requests R) ws (n + c) os)
-    (λ t. outcome (Err (placed p 0 n t)) ws [])))
-    (performing h u R ws n os)
+    (λ t. outcome (Err (placed p 0 n t)) ws []))
+    else performing h u R ws n os
 performing h u R ws n (marking r ∷ os) =
     if_none (runs_in (marked ws) r.first r.behind)
     (performing h u R (units_set ws r.first r.behind) n os)

@@ -1,5 +1,5 @@
 -- Runs of marked units.
-use Rattle.std.specs.Prelude.{◌≡◌, ℕ, zero, suc, ◌+◌, ◌-◌, ◌<◌, ◌≤◌, cond, ◌⊎◌, List, [], ◌∷◌, ◌==◌, ◌≢◌}
+use Rattle.std.specs.Prelude.{◌≡◌, ℕ, zero, suc, ◌+◌, ◌-◌, ◌<◌, ◌≤◌, if◌then◌else◌, ◌⊎◌, List, [], ◌∷◌, ◌==◌, ◌≢◌}
 
 -- the units from first to behind - 1
 pub record Run : Type 0 where
@@ -12,12 +12,12 @@ run a b = record { first = a; behind = b }
 -- unit a put before runs that lie behind it: it is a run of its own, or lengthens the first of them
 abbrev pub put_before : ℕ → List Run → List Run
 put_before a [] = run a (a + 1) ∷ []
-put_before a (r ∷ rs) = cond (r.first == a + 1) (run a r.behind ∷ rs) (run a (a + 1) ∷ r ∷ rs)
+put_before a (r ∷ rs) = if r.first == a + 1 then run a r.behind ∷ rs else run a (a + 1) ∷ r ∷ rs
 
 -- the runs among n units from a on, where f is 1 at the marked ones: the lowest first
 unfoldable pub runs : (ℕ → ℕ) → ℕ → ℕ → List Run
 runs f a zero = []
-runs f a (suc n) = cond (f a == 1) (put_before a (runs f (a + 1) n)) (runs f (a + 1) n)
+runs f a (suc n) = if f a == 1 then put_before a (runs f (a + 1) n) else runs f (a + 1) n
 
 -- the runs among the units from i to j - 1
 abbrev pub runs_in : (ℕ → ℕ) → ℕ → ℕ → List Run

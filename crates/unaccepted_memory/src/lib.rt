@@ -8,16 +8,14 @@ ghost use Rattle.unaccepted_memory.specs.Runs.{RunsLaw};
 // Every history of calls on a table keeps all promises, over every host: custody of each owed address, only pages that were
 // marked or handed over become accepted, counts add up to the requests, no walk asks twice or outside its span. What is
 // claimed is neither marked nor claimed a second time. And a history can always go on.
-pub fn history_keeps() -> u8
+pub fn history_keeps()
     ensures kept { HistoryKeeps }
     ensures single { ClaimsSingle }
     ensures onward { HistoryGoesOn }
-{
-    0
-}
+{}
 
 // What each call does, in the words of units, windows and walks.
-pub fn call_laws() -> u8
+pub fn call_laws()
     ensures cleared { ClearedOnly }
     ensures stuck { StuckLaw }
     ensures refusals { RefusalsLaw }
@@ -26,15 +24,11 @@ pub fn call_laws() -> u8
     ensures claim { ClaimLaw }
     ensures empty { RegisterEmpty }
     ensures register { RegisterLaw }
-{
-    8
-}
+{}
 
 // What runs of marks are, and what tables that are built or found bring to a history's start.
-pub fn table_laws() -> u8
+pub fn table_laws()
     ensures runs { RunsLaw }
     ensures built { BuiltLaw }
     ensures found { FoundLaw }
-{
-    3
-}
+{}

@@ -1,61 +1,61 @@
 // What a header says, by the names of the table's fields.
-ghost use Rattle.efi_table.specs.Layouts.{range};
-ghost use Rattle.efi_table.specs.Shapes.{bitmap_end, covered_end, size_of, units_of};
-ghost use Rattle.efi_table.specs.Views.{shape_of};
 ghost use Rattle.std.specs.Prelude.{◌≡◌};
+ghost use Rattle.efi_table.specs.Layouts.{range};
+ghost use Rattle.efi_table.specs.Shapes.{IsHeader, bitmap_end, covered_end, size_of, units_of};
 
-use super::super::layout::Range;
 use super::{Header, VERSION};
+use crate::layout::{BYTE_BITS, HEADER_WORDS, Range, WORD_BYTES};
 
 impl Header {
     pub fn version(&self) -> u32
         ensures { result ≡ 1 }
     {
-        VERSION as u32
+        VERSION
     }
 
     pub fn unit_size_bytes(&self) -> u32
-        ensures { result ≡ (shape_of self.now).unit }
+        ensures { result ≡ self.now.unit }
     {
         self.unit
     }
 
     pub fn phys_base(&self) -> u64
-        ensures { result ≡ (shape_of self.now).base }
+        ensures { result ≡ self.now.base }
     {
         self.base
     }
 
     pub fn bitmap_size_bytes(&self) -> u64
-        ensures { result ≡ (shape_of self.now).length }
+        ensures { result ≡ self.now.length }
     {
         self.length
     }
 
-    // The word of the image behind the bitmap, which begins at word 3.
+    // The word of the image behind the bitmap, which begins behind the header.
     pub fn bitmap_end(&self) -> usize
-        ensures { result ≡ bitmap_end (shape_of self.now) }
+        ensures { result ≡ bitmap_end self.now }
     {
-        3 + (self.length / 8) as usize
+        (HEADER_WORDS + self.length / WORD_BYTES) as usize
     }
 
     // How many units the table has.
     pub fn total_bits(&self) -> u64
-        ensures { result ≡ units_of (shape_of self.now) }
+        ensures { result ≡ units_of self.now }
     {
-        8 * self.length
+        BYTE_BITS * self.length
     }
 
     // How many addresses its units hold.
     pub fn coverage_size(&self) -> u64
-        ensures { result ≡ size_of (shape_of self.now) }
+        ensures { result ≡ size_of self.now }
     {
         self.total_bits() * u64::from(self.unit)
     }
 
     // The addresses that its units hold.
     pub fn coverage_range(&self) -> Range
-        ensures { result ≡ range (shape_of self.now).base (covered_end (shape_of self.now)) }
+        ensures range { result ≡ range self.now.base (covered_end self.now) }
+        ensures header { IsHeader self.now }
     {
         let end = self.base + self.coverage_size();
         Range {

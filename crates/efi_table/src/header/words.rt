@@ -1,91 +1,70 @@
 // A header in the first three words of an image.
-ghost use Rattle.std.specs.Prelude.{◌≡◌, ◌^◌, ◌<◌, nat_le};
-ghost use Rattle.efi_table.specs.Images.{after_write, decoded, decoded_from, first_word, header_in, image_checked, write_answer};
+ghost use Rattle.std.specs.Prelude.{◌≡◌};
+ghost use Rattle.efi_table.specs.Images.{after_write, decoded_from, header_in, image_checked, write_answer, written};
 ghost use Rattle.efi_table.specs.Laws.{RoundTrips};
-ghost use Rattle.efi_table.specs.Shapes.{covered_end, shape};
-ghost use Rattle.efi_table.specs.Views.{shape_in, shape_of};
 
 use super::{Header, VERSION};
+use crate::layout::WORD_BYTES;
 use fault::AcceptError;
 
-// Is the covered end of units of a size 2^64 or more?
-fn ends_too_high(unit: u32, base: u64, length: u64) -> bool
-    requires { 0 < unit }
-    ensures { result ≡ nat_le (2 ^ 64) (covered_end (shape unit base length)) }
-{
-    (u64::MAX - base) / (8 * u64::from(unit)) < length
-}
-
-// The header that three words hold. A table at a place where none may lie is refused like one whose bitmap has a bad length.
-fn decode(placed: bool, first: u64, base: u64, length: u64) -> Result<Header, AcceptError>
-    ensures { shape_in result ≡ decoded placed first base length }
-{
-    if first % 0x1_0000_0000 != VERSION {
-        return Err(AcceptError::BadVersion);
-    }
-    let unit = (first / 0x1_0000_0000) as u32;
-    if !unit.is_power_of_two() {
-        return Err(AcceptError::BadUnit);
-    }
-    if !placed || length == 0 || length % 8 != 0 {
-        return Err(AcceptError::BadBitmap);
-    }
-    if ends_too_high(unit, base, length) {
-        return Err(AcceptError::BadCoverage);
-    }
-    Ok(Header { unit, base, length })
-}
+// Word 0 has the version below this place, and the unit size from it on.
+const UNIT_PLACE: u64 = 0x1_0000_0000;
 
 impl Header {
     // The header that an image holds.
     pub fn read(image: &[u64]) -> Result<Header, AcceptError>
-        ensures header { shape_in result ≡ header_in image.now }
+        ensures header { result ≡ header_in image.now }
         ensures trips { RoundTrips }
     {
         Header::read_placed(true, image)
     }
 
-    // The header that an image holds, where it is known whether a table may lie at the image's place.
+    // The header that an image holds, where it is known whether a table may lie at the image's place. A table at a place
+    // where none may lie is refused like one whose bitmap has a bad length.
     pub fn read_placed(placed: bool, image: &[u64]) -> Result<Header, AcceptError>
-        ensures { shape_in result ≡ decoded_from placed image.now }
+        ensures { result ≡ decoded_from placed image.now }
     {
-        if image.len() < 3 {
+        let &[first, base, length, ..] = image else {
             return Err(AcceptError::WrongImage);
+        };
+        if first % UNIT_PLACE != u64::from(VERSION) {
+            return Err(AcceptError::BadVersion);
         }
-        decode(placed, image[0], image[1], image[2])
+        let unit = (first / UNIT_PLACE) as u32;
+        if !unit.is_power_of_two() {
+            return Err(AcceptError::BadUnit);
+        }
+        if !placed || length == 0 || !length.is_multiple_of(WORD_BYTES) {
+            return Err(AcceptError::BadBitmap);
+        }
+        Header::new(unit, base, length).ok_or(AcceptError::BadCoverage)
     }
 
-    // Word 0 of the image.
-    fn first_word(&self) -> u64
-        ensures { result ≡ first_word (shape_of self.now).unit }
+    // The words of the header in an image.
+    fn words(&self) -> [u64; 3]
+        ensures { result ≡ written self.now }
     {
-        VERSION + u64::from(self.unit) * 0x1_0000_0000
+        let first = u64::from(VERSION) + u64::from(self.unit) * UNIT_PLACE;
+        [first, self.base, self.length]
     }
 
     // Writes the header into an image; refuses one that is under three words.
     pub fn write(&self, image: &mut [u64]) -> Result<(), AcceptError>
         ensures answer { result ≡ write_answer image.old }
-        ensures image { image.new ≡ after_write (shape_of self.now) image.old }
+        ensures image { image.new ≡ after_write self.now image.old }
     {
-        if image.len() < 3 {
+        let Some(head) = image.first_chunk_mut::<3>() else {
             return Err(AcceptError::WrongImage);
-        }
-        image[0] = self.first_word();
-        image[1] = self.base;
-        image[2] = self.length;
+        };
+        *head = self.words();
         Ok(())
     }
 
     // Refuses an image that is not the table's: one under three words, with other words 0 to 2, or with the bitmap cut off.
     pub fn check_image(&self, image: &[u64]) -> Result<(), AcceptError>
-        ensures { result ≡ image_checked (shape_of self.now) image.now }
+        ensures { result ≡ image_checked self.now image.now }
     {
-        if image.len() < 3
-            || image[0] != self.first_word()
-            || image[1] != self.base
-            || image[2] != self.length
-            || image.len() < self.bitmap_end()
-        {
+        if !image.starts_with(&self.words()) || image.len() < self.bitmap_end() {
             return Err(AcceptError::WrongImage);
         }
         Ok(())

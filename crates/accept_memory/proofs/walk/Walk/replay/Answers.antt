@@ -1,7 +1,6 @@
 use Rattle.std.proofs.Common.{◌≡◌, ℕ, ◌+◌, ◌<◌, ◌≤◌, List, length, get_or, drop, sym, ap, ◌∙◌, arith}
 use Rattle.std.proofs.lemmas.List.{at_drop_more, at_drop_all}
 use Rattle.accept_memory.specs.Promises.{stepped_end}
-use Rattle.accept_memory.specs.Views.{view_of}
 use Rattle.accept_memory.specs.Walks.{View, replied}
 use Rattle.accept_memory.proofs.walk.Walk.replay.Goals as goal
 
@@ -18,9 +17,9 @@ pub loop-status-preserved : goal.loop-status-preserved
 loop-status-preserved c =
     let rs = c.args.statuses.now in
     let i = c.loop-status.status-index in
-    let replied_is : view_of c.reply.new.self ≡ replied (view_of c.loop-status.self) (get_or rs i 0) = c.reply.ensures in
+    let replied_is : c.reply.new.self ≡ replied c.loop-status.self (get_or rs i 0) = c.reply.ensures in
     ap (λ (w : View). stepped_end w (drop (i + 1) rs)) replied_is
-    ∙ more (view_of c.loop-status.self) rs i (omega arith) ∙ c.loop-status.invariant
+    ∙ more c.loop-status.self rs i (omega arith) ∙ c.loop-status.invariant
 
 pub returns : goal.returns
-returns c = none (view_of c.loop-status.self) c.args.statuses.now c.loop-status.status-index (omega arith) ∙ c.loop-status.invariant
+returns c = none c.loop-status.self c.args.statuses.now c.loop-status.status-index (omega arith) ∙ c.loop-status.invariant
