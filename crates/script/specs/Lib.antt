@@ -1,0 +1,9 @@
+pub mod Answers
+pub mod Calls
+pub mod Hosts
+pub mod Lists
+pub mod Names
+pub mod Numbers
+pub mod Requests
+pub mod Runs
+pub mod Settings
