@@ -4,6 +4,9 @@ use Rattle.host.specs.Pages.{size}
 use Rattle.accept_memory.specs.Walks.{State, asking, refused}
 
 pub record OnCourse (next end count status : ℕ) (s : State) : Type 0 where
+  -- the level that it asks at, and the one whose reply ended it, have blocks,
+  pub asked : (l : ℕ) → s ≡ asking l → l ≤ 2
+  pub ended : (l : ℕ) → s ≡ refused l → l ≤ 2
   -- a walk that asks is at a multiple of its level's size,
   pub fits : (l : ℕ) → s ≡ asking l → next % size l ≡ 0
   -- with that size left to its end,

@@ -32,7 +32,7 @@ ones_bits (suc k) x h =
     ∙ sym (sum_by-cons (bit_at x) 0 (range_with_len 1 k))
 
 -- the ones are the marks
-counted : (ws : List ℕ) → Words64 ws → sum_by count_ones ws ≡ unit_count ws
+pub counted : (ws : List ℕ) → Words64 ws → sum_by count_ones ws ≡ unit_count ws
 unfolding marked
 counted [] h = refl
 counted (x ∷ ws) h =

@@ -161,3 +161,9 @@ marked_zeroed ws k =
       | inr l ↦ get_or_past (zeroed ws) (k / 64) 0 (rw length-replicate l)
     ] in
     ap (λ x. bit_at x (k % 64)) none ∙ bit_at-zero (k % 64)
+
+-- words that are all zero are those of no marks
+pub all_zero : (ws vs : List ℕ) → length vs ≡ length ws → ((k : ℕ) → k < length ws → get_or vs k 0 ≡ 0) → vs ≡ zeroed ws
+all_zero ws vs e z =
+    let long : length (zeroed ws) ≡ length ws = length-replicate (length ws) 0 in
+    ext_get_or 0 vs (zeroed ws) (e ∙ sym long) (λ k l. z k (omega arith) ∙ sym (get_or-replicate (length ws) k 0 0 (omega arith)))

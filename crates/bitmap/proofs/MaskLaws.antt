@@ -1,5 +1,5 @@
 -- From masks to marks: what a word's share of a range is, what writing it does, and what a search sees through it.
-use Rattle.std.proofs.Common.{◌≡◌, ℕ, ◌+◌, ◌-◌, ◌*◌, ◌/◌, ◌%◌, ◌^◌, ◌<◌, ◌≤◌, min, ◌≢◌, ◌⊎◌, List, length, get_or, set, sym, refl, ap, ◌∙◌, ap₂, inl, inr, arith, pow_pos, pow_mono, w64}
+use Rattle.std.proofs.Common.{◌≡◌, ℕ, ◌+◌, ◌-◌, ◌*◌, ◌/◌, ◌%◌, ◌^◌, ◌<◌, ◌≤◌, max, min, ◌≢◌, ◌⊎◌, List, length, get_or, set, sym, refl, ap, ◌∙◌, ap₂, inl, inr, arith, pow_pos, pow_mono, w64}
 use lib.Bits.{bit_and, and_le_l, and_le_r, or_lt}
 use Rattle.std.specs.Int.{bit_at, trailing_zeros}
 use Rattle.std.proofs.lemmas.Nat.Bits.{bit_at-lt, bit_at_and, bit_at_or, bit_at_not, bit_at-zero, bit_at-trailing_zeros, bit_at_ones, bit_at_ones_above, bit_at_mask_inside, bit_at_mask_below, bit_at_mask_above, ones_shl, ones_shr, same_from_bits, same_from_bits_below}
@@ -30,16 +30,16 @@ bits_by_shifts lo hi p q r =
 
 -- bit n of the share of word w is unit 64 * w + n
 module _ (a b w : ℕ) where
-  share_in : (n : ℕ) → n < 64 → a ≤ 64 * w + n → 64 * w + n < b → bit_at (share a b w) n ≡ 1
+  pub share_in : (n : ℕ) → n < 64 → a ≤ 64 * w + n → 64 * w + n < b → bit_at (share a b w) n ≡ 1
   unfolding share
   share_in n s p q = bit_at_mask_inside (a - 64 * w) (min (b - 64 * w) 64) n (omega arith) (omega arith)
 
-  share_out : (n : ℕ) → n < 64 → (64 * w + n < a) ⊎ (b ≤ 64 * w + n) → bit_at (share a b w) n ≡ 0
+  pub share_out : (n : ℕ) → n < 64 → (64 * w + n < a) ⊎ (b ≤ 64 * w + n) → bit_at (share a b w) n ≡ 0
   unfolding share
   share_out n s (inl p) = bit_at_mask_below (a - 64 * w) (min (b - 64 * w) 64) n (omega arith)
   share_out n s (inr p) = bit_at_mask_above (a - 64 * w) (min (b - 64 * w) 64) n (omega arith)
 
-  share_lt : share a b w < 2 ^ 64
+  pub share_lt : share a b w < 2 ^ 64
   unfolding share
   share_lt = omega (arith, pow_mono {i = min (b - 64 * w) 64} {j = 64} (omega arith), pow_pos (a - 64 * w))
 
@@ -76,7 +76,7 @@ module _ (v : Mark) (ws : List ℕ) (a b : ℕ) (whole : Words64 ws) where
       same_from_bits_below 64 x (word_written v ws a b w) h (packed_lt _ written_small (64 * w) 64) (λ n s.
       e n s ∙ sym (packed_bit _ written_small (64 * w) 64 n s))
 
-  put_is : (w : ℕ) → put v (get_or ws w 0) (share a b w) ≡ word_written v ws a b w
+  pub put_is : (w : ℕ) → put v (get_or ws w 0) (share a b w) ≡ word_written v ws a b w
   put_is w =
       let m : ℕ = share a b w in
       let l : m < 2 ^ 64 = share_lt a b w in
@@ -88,10 +88,10 @@ module _ (v : Mark) (ws : List ℕ) (a b : ℕ) (whole : Words64 ws) where
       ])
 
   -- a word that holds no unit of the range
-  word_kept : (w : ℕ) → (64 * w + 64 ≤ a) ⊎ (b ≤ 64 * w) → get_or ws w 0 ≡ word_written v ws a b w
+  pub word_kept : (w : ℕ) → min b (64 * w + 64) ≤ max a (64 * w) → get_or ws w 0 ≡ word_written v ws a b w
   word_kept w away =
       word_is w _ (whole w) (λ n s.
-      sym (written_out (as_bit v) a b (marked ws) (64 * w + n) (elim away [ inl p ↦ inl (omega arith) | inr p ↦ inr (omega arith) ]) ∙ marked_at ws w n s))
+      sym (written_out (as_bit v) a b (marked ws) (64 * w + n) (elim (cases_lt (64 * w + n) a) [ inl p ↦ inl p | inr p ↦ inr (omega arith) ]) ∙ marked_at ws w n s))
 
 -- The words us are the words ws of which those below w were updated.
 pub record Updated (v : Mark) (ws us : List ℕ) (a b w : ℕ) : Type 0 where
@@ -103,7 +103,7 @@ pub record Updated (v : Mark) (ws us : List ℕ) (a b w : ℕ) : Type 0 where
 pub updated_none : (v : Mark) (ws : List ℕ) (a b w : ℕ) → Words64 ws → w ≤ a / 64 → Updated v ws ws a b w
 updated_none v ws a b w h p = record {
   whole = h;
-  below = λ k l. word_kept v ws a b h k (inl (omega arith));
+  below = λ k l. word_kept v ws a b h k (omega arith);
   above = λ k l. refl;
 }
 
@@ -118,14 +118,14 @@ updated_more v ws us vs a b w x next l e f s u =
       above = λ k h. let ne : k ≢ w = omega arith in rw (e, get_or-set_other) (u.above k (omega arith));
     }
 
-pub updated_all : (v : Mark) (ws us : List ℕ) (a b w : ℕ) → length us ≡ length ws → ((k : ℕ) → w ≤ k → k < length ws → b ≤ 64 * k)
+pub updated_all : (v : Mark) (ws us : List ℕ) (a b w : ℕ) → length us ≡ length ws → ((k : ℕ) → w ≤ k → k < length ws → min b (64 * k + 64) ≤ max a (64 * k))
     → Updated v ws us a b w → us ≡ units_written (as_bit v) ws a b
 unfolding units_written words_of
 updated_all v ws us a b w e rest u =
     fill_by_all (word_written v ws a b) us (length ws) 0 e (λ k h.
     elim (cases_lt k w) [
       | inl l ↦ u.below k l
-      | inr l ↦ u.above k l ∙ word_kept v ws a b u.whole k (inr (rest k l h))
+      | inr l ↦ u.above k l ∙ word_kept v ws a b u.whole k (rest k l h)
     ])
 
 -- the units of a word that have the mark

@@ -5,10 +5,10 @@ use Rattle.std.specs.List.{between}
 use Rattle.std.proofs.lemmas.List.Edits.{length-between, get_or-between}
 use Rattle.std.proofs.lemmas.List.{drop-drop, get_or-take, get_or-drop}
 use Rattle.std.proofs.lemmas.Slice.{take-put_mid_below, drop-put_mid, between-put_mid}
-use Rattle.std.proofs.lemmas.Bool.{cases_lt}
+use Rattle.std.proofs.lemmas.Bool.{cases_lt, and_from, le-leb, cond-true}
 use Rattle.std.specs.Int.{bit_at}
 use Rattle.bitmap.specs.Marks.{marked, units_written, RangeWritten}
-use Rattle.bitmap.specs.Parts.{Lent}
+use Rattle.bitmap.specs.Parts.{with_part, Lent, part_written}
 use Rattle.bitmap.proofs.MarkLaws.{written_inside, written_outside}
 
 -- lending `&mut xs[i..j]`, which comes back as ys: what a caller of a function on the part knows of the whole
@@ -22,6 +22,12 @@ lent i j xs ys p q kept =
       back = drop-put_mid i (j - i) xs ys j (omega arith) (omega arith) e;
       middle = between-put_mid i (j - i) xs ys j (omega arith) e;
     }
+
+-- the image with a range of a part written
+pub part_written_lem : (v i j : ℕ) (xs ys after : List ℕ) (a b : ℕ) → i ≤ j → j ≤ length xs → Lent i j xs ys after
+    → ys ≡ units_written v (between i j xs) a b → after ≡ part_written v i j xs a b
+part_written_lem v i j xs ys after a b p q l is =
+    l.whole ∙ ap (with_part i j xs) is ∙ sym (cond-true _ _ _ (and_from _ _ (le-leb i j p) (le-leb j (length xs) q)))
 
 -- the units of a part are units of the image
 pub marked_part : (xs : List ℕ) (i j k : ℕ) → k < 64 * (j - i) → marked (between i j xs) k ≡ marked xs (64 * i + k)

@@ -4,7 +4,7 @@
 // and an end, the unit behind its last. It is cut to the capacity, and one that is empty or lies behind it holds no unit.
 #![tactic(auto)]
 
-ghost use Rattle.std.specs.Prelude.{◌≡◌, ℕ, ◌+◌, ◌-◌, ◌*◌, ◌/◌, ◌^◌, ◌<◌, ◌≤◌, min, length, slice_set};
+ghost use Rattle.std.specs.Prelude.{◌≡◌, ℕ, ◌+◌, ◌-◌, ◌*◌, ◌/◌, ◌^◌, ◌<◌, ◌≤◌, max, min, length, slice_set};
 ghost use Rattle.bitmap.specs.Marks.{RangeWritten, capacity_of, gap, marked, unit_count, units_cleared, units_set, units_written, zeroed};
 ghost use Rattle.bitmap.specs.Masks.{as_bit, bits_from, bits_of, matching, put, share};
 ghost use Rattle.bitmap.specs.Parts.{PartMarks, part_written};
@@ -162,12 +162,15 @@ struct Units {
 }
 
 impl Units {
-    // Of `count` words, those that can hold a unit of the range. An empty range may have one, with no bit in its share.
+    // Of `count` words, those that hold a unit of the range: none for an empty one.
     fn words(self, count: usize) -> Range<usize>
         ensures start { result.start ≡ self.start / 64 }
-        ensures end { result.end ≡ min count ((self.end + 63) / 64) }
+        ensures low { result.end ≤ min count ((self.end + 63) / 64) }
+        ensures end { self.start < self.end → result.end ≡ min count ((self.end + 63) / 64) }
+        ensures held { (w : ℕ) → result.start ≤ w → w < result.end → max self.start (64 * w) < min self.end (64 * w + 64) }
     {
-        (self.start / 64) as usize..count.min(self.end.div_ceil(64) as usize)
+        let end = if self.start < self.end { self.end } else { 0 };
+        (self.start / 64) as usize..count.min(end.div_ceil(64) as usize)
     }
 
     // The bits of such a word that are units of the range.

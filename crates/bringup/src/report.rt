@@ -7,7 +7,7 @@ use fault::Fault;
 use host::page_level::PageLevel;
 use hosts::map::MapPage;
 use recorder::Exchange;
-use recorder::runs::Chain;
+use recorder::runs::Runs;
 use std::{fmt, io};
 use tdcall::decode;
 
@@ -44,7 +44,7 @@ fn pages_word(count: usize) -> &'static str
 // The pages of a map, a line for each run of equal ones.
 pub(crate) fn print_pages(rt: &HostRuntime, base: u64, bytes: &[u8]) -> io::Result<()> {
     let mut address = base;
-    for run in bytes.chunk_by(|before, byte| byte.follows(before)) {
+    for run in Runs::new(bytes) {
         let count = run.len();
         let word = pages_word(count);
         let page = MapPage::from(run[0]);
@@ -56,7 +56,7 @@ pub(crate) fn print_pages(rt: &HostRuntime, base: u64, bytes: &[u8]) -> io::Resu
 
 // Requests with their replies, a line for each run of them.
 pub(crate) fn print_exchanges(rt: &HostRuntime, exchanges: &[Exchange]) -> io::Result<()> {
-    for run in exchanges.chunk_by(|before, exchange| exchange.follows(before)) {
+    for run in Runs::new(exchanges) {
         let count = run.len();
         let first = run[0];
         let level = LevelNumber(first.block.level);

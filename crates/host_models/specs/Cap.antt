@@ -3,8 +3,8 @@ use Rattle.std.specs.Prelude.{◌≡◌, ℕ, ◌<◌, ◌≤◌, if◌then◌el
 use Rattle.tdcall.specs.declared.TdCallError.TheVariants.{TdxPageSizeMismatch}
 use Rattle.tdcall.specs.Statuses.{status_of}
 use Rattle.host.specs.Pages.{Request, accepting}
-use Rattle.host.specs.Replies.{Replies, later, since}
-use Rattle.host.specs.Layers.{Layer, layer_replies}
+use Rattle.host.specs.Replies.{Replies, later}
+use Rattle.host.specs.Layers.{Layer, over, passed, layer_replies}
 
 -- the reply of a cap of level c over a host that replies R
 abbrev pub cap_reply : ℕ → Replies → Request → ℕ
@@ -23,7 +23,7 @@ cap_replies = layer_replies capping
 
 -- the replies of the host below afterwards
 abbrev pub cap_next : ℕ → Replies → Request → Replies
-cap_next c R q = since (cap_passes c R q) R
+cap_next c R q = (passed capping (over c R) q).below
 
 -- What a cap of level c does with a request for a block, where r is its reply, and R and S are the replies of the host
 -- below before and after it.

@@ -20,9 +20,6 @@ use Rattle.hosts.specs.declared.map.MapPage.{MapPage}
 use Rattle.hosts.specs.declared.map.MapPage.TheVariants as says
 use Rattle.hosts.specs.declared.map.Obstacle.{Obstacle}
 use Rattle.hosts.specs.declared.map.Obstacle.TheVariants as way
-use Rattle.std.specs.Ordering.{ord_max}
-use Rattle.std.specs.Option.{option_cmp}
-use Rattle.hosts.specs.contracts.map.ObstacleOrd.TheImpl as order
 use Rattle.hosts.specs.MapPages.{map_page, obstacle_to, rank, weight, highest, error_for}
 
 -- the reply that an obstacle of some weight gives
@@ -123,24 +120,19 @@ highest_like l L M i j (suc n) h =
     let rest = highest_like l L M (i + 1) (j + 1) n (λ k b. let e : i + 1 + k ≡ i + (k + 1) = omega arith in let d : j + 1 + k ≡ j + (k + 1) = omega arith in rw (e, d) (h (k + 1) (omega arith))) in
     ap₂ max (ap (weight l) first) rest
 
--- the higher of two in the order of the code
-pub rank_max : (a b : Option Obstacle) → rank (ord_max (option_cmp order.cmp-value.it) a b) ≡ max (rank a) (rank b)
-rank_max None None = refl
-rank_max None (Some way.MappedSmaller) = refl
-rank_max None (Some way.Accepted) = refl
-rank_max None (Some way.Absent) = refl
-rank_max (Some way.MappedSmaller) None = refl
-rank_max (Some way.MappedSmaller) (Some way.MappedSmaller) = refl
-rank_max (Some way.MappedSmaller) (Some way.Accepted) = refl
-rank_max (Some way.MappedSmaller) (Some way.Absent) = refl
-rank_max (Some way.Accepted) None = refl
-rank_max (Some way.Accepted) (Some way.MappedSmaller) = refl
-rank_max (Some way.Accepted) (Some way.Accepted) = refl
-rank_max (Some way.Accepted) (Some way.Absent) = refl
-rank_max (Some way.Absent) None = refl
-rank_max (Some way.Absent) (Some way.MappedSmaller) = refl
-rank_max (Some way.Absent) (Some way.Accepted) = refl
-rank_max (Some way.Absent) (Some way.Absent) = refl
+-- no obstacle is above the last
+rank_low : (o : Option Obstacle) → rank o ≤ 3
+rank_low None = omega arith
+rank_low (Some way.MappedSmaller) = omega arith
+rank_low (Some way.Accepted) = omega arith
+rank_low (Some way.Absent) = omega arith
+
+pub highest_low : (l : ℕ) (L : List ℕ) (i n : ℕ) → highest l L i n ≤ 3
+unfolding highest
+highest_low l L i zero = omega arith
+highest_low l L i (suc n) =
+    let first : weight l (get_or L i 0) ≤ 3 = rank_low (obstacle_to l (map_page (get_or L i 0))) in
+    omega (arith, first, highest_low l L (i + 1) n)
 
 -- the first that fits, where each test is joined to those before it
 first_fits : (x y z a b c : Bool) → x ≡ a → (x || y) ≡ b → (x || (y || z)) ≡ c → (u v w : ℕ) → cond a u (cond b v (cond c w 0)) ≡ cond x u (cond y v (cond z w 0))

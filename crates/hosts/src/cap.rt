@@ -1,5 +1,5 @@
 // A cap over any host: a request above its level gets size mismatch and goes no further.
-ghost use Rattle.std.specs.Prelude.{◌≡◌, [], ◌∷◌};
+ghost use Rattle.std.specs.Prelude.{◌≡◌, ◌≤◌, [], ◌∷◌};
 ghost use Rattle.host.proofs.Layers.{layer_sounds};
 ghost use Rattle.host.specs.Layers.{layered};
 ghost use Rattle.host_models.proofs.Cap.{cap_lawful};
@@ -21,7 +21,8 @@ pub struct Cap<L> {
 impl<L> Cap<L> {
     // A cap of a checked level over a host.
     pub fn new(level: CapLevel, below: L) -> Cap<L>
-        ensures { result ≡ record { level = level; below = below } }
+        ensures cap { result ≡ record { level = level; below = below } }
+        ensures low { level ≤ 2 }
     {
         Cap {
             level: level.number(),

@@ -7,7 +7,7 @@ ghost use Rattle.host_models.proofs.Inject.{inject_lawful};
 ghost use Rattle.host_models.specs.Inject.{injecting, is_reply};
 
 use host::{Block, Host};
-use tdcall::{TdCallError, decode};
+use tdcall::TdCallError;
 
 #[derive(Debug, Drop)]
 pub struct Inject<'a, L> {
@@ -47,10 +47,7 @@ impl<'a, L> Inject<'a, L> {
 fn is_reply(word: u64) -> bool
     ensures { result ≡ is_reply word }
 {
-    !matches!(
-        decode(word),
-        Ok(()) | Err(TdCallError::TdxPageAlreadyAccepted)
-    )
+    word != 0 && word >> 32 != TdCallError::TdxPageAlreadyAccepted.class()
 }
 
 impl<L: Host> Host for Inject<'_, L> {

@@ -1,6 +1,6 @@
 // A map of pages over the caller's bytes: one byte a page, 0 absent, 1, 2, 3 pending and mapped at level 0, 1, 2, 4 accepted;
 // any other reads as 0.
-ghost use Rattle.std.specs.Prelude.{◌≡◌, ℕ, ◌+◌, ◌-◌, ◌/◌, ◌<◌, ◌≤◌, ◌&&◌, length, Some, if◌then◌else◌, nat_le, nat_lt, slice_index};
+ghost use Rattle.std.specs.Prelude.{◌≡◌, ℕ, ◌+◌, ◌-◌, ◌*◌, ◌/◌, ◌%◌, ◌^◌, ◌<◌, ◌≤◌, ◌&&◌, length, min, replicate, Some, if◌then◌else◌, nat_le, nat_lt, slice_index};
 ghost use Rattle.host.specs.Levels.{level_number};
 ghost use Rattle.host.specs.Pages.{accepting};
 ghost use Rattle.host_models.proofs.Map.{map_sounds};
@@ -91,17 +91,15 @@ impl From<Obstacle> for TdCallError {
     }
 }
 
-impl MapPage {
-    // What stands in the way of accepting the page at a level.
-    fn obstacle(self, level: PageLevel) -> Option<Obstacle>
-        ensures { result ≡ obstacle_to (level_number level) self }
-    {
-        match self {
-            MapPage::Absent => Some(Obstacle::Absent),
-            MapPage::Accepted => Some(Obstacle::Accepted),
-            MapPage::Pending(mapped) if mapped < level => Some(Obstacle::MappedSmaller),
-            MapPage::Pending(_) => None,
-        }
+// What stands in the way of accepting the page of a byte at a level.
+fn obstacle_at(byte: u8, level: PageLevel) -> Option<Obstacle>
+    ensures { result ≡ obstacle_to (level_number level) (map_page byte) }
+{
+    match byte {
+        ACCEPTED => Some(Obstacle::Accepted),
+        1..=3 if byte <= level.number() => Some(Obstacle::MappedSmaller),
+        1..=3 => None,
+        0 | 5.. => Some(Obstacle::Absent),
     }
 }
 
@@ -150,7 +148,8 @@ impl<'a> MapHost<'a> {
     // The map of a checked shape over the caller's bytes. It has the pages that both give it: bytes behind the shape's pages
     // never change, and a page that has no byte is absent.
     pub fn new(shape: MapShape, pages: &'a mut [u8]) -> MapHost<'a>
-        ensures { result ≡ record { first = shape.base / 4096; count = shape.count; pages = pages.entry } }
+        ensures map { result ≡ record { first = shape.base / 4096; count = shape.count; pages = pages.entry } }
+        ensures shape { (shape.base % 4096 ≡ 0) × (shape.base + 4096 * shape.count < 2 ^ 64) }
     {
         MapHost {
             first: shape.base / 4096,
@@ -180,15 +179,47 @@ fn block_bytes(first: u64, count: u64, held: usize, page: u64, span: u64) -> Opt
     Some(from..from + span as usize)
 }
 
-// The highest obstacle among the pages of some bytes.
+// The place of an obstacle in their order; 0 is none.
+fn rank(obstacle: Option<Obstacle>) -> u8
+    ensures { result ≡ rank obstacle }
+{
+    match obstacle {
+        None => 0,
+        Some(Obstacle::MappedSmaller) => 1,
+        Some(Obstacle::Accepted) => 2,
+        Some(Obstacle::Absent) => 3,
+    }
+}
+
+// The obstacle at a place in their order.
+fn ranked(place: u8) -> Option<Obstacle>
+    ensures { rank result ≡ min place 3 }
+{
+    match place {
+        0 => None,
+        1 => Some(Obstacle::MappedSmaller),
+        2 => Some(Obstacle::Accepted),
+        _ => Some(Obstacle::Absent),
+    }
+}
+
+// The highest obstacle among the pages of some bytes. The highest of the numbers of obstacles, told by bytes, is found many
+// bytes at a time; that of options, told by `MapPage`, is not.
 fn highest_obstacle(bytes: &[u8], level: PageLevel) -> Option<Obstacle>
     ensures { rank result ≡ highest (level_number level) bytes.now 0 (length bytes.now) }
 {
-    let mut most = None;
+    let mut most: u8 = 0;
     for byte in bytes {
-        most = most.max(MapPage::from(*byte).obstacle(level));
+        most = most.max(rank(obstacle_at(*byte, level)));
     }
-    most
+    ranked(most)
+}
+
+// Makes the bytes accepted.
+fn accept_bytes(bytes: &mut [u8])
+    ensures { bytes.new ≡ replicate (length bytes.old) 4 }
+{
+    bytes.fill(ACCEPTED);
 }
 
 // Accepts a block on the bytes of a map, or refuses it and changes none.
@@ -210,7 +241,7 @@ fn accept_in_map(first: u64, count: u64, bytes: &mut [u8], block: Block) -> Resu
     if let Some(obstacle) = highest_obstacle(part, level) {
         return Err(obstacle.into());
     }
-    part.fill(ACCEPTED);
+    accept_bytes(part);
     Ok(())
 }
 

@@ -1,5 +1,5 @@
 // Retry over any host: a busy reply is followed by the same request again, some times at most, and the last reply is given.
-ghost use Rattle.std.specs.Prelude.{◌≡◌, [], ◌∷◌};
+ghost use Rattle.std.specs.Prelude.{◌≡◌, ◌≤◌, [], ◌∷◌};
 ghost use Rattle.host.proofs.Layers.{layer_sounds};
 ghost use Rattle.host.specs.Layers.{layered};
 ghost use Rattle.host_models.proofs.Retry.{retry_lawful};
@@ -7,7 +7,7 @@ ghost use Rattle.host_models.specs.Retry.{is_busy, retrying};
 
 use super::at_most::AtMost;
 use host::{Block, Host};
-use tdcall::{TdCallError, decode};
+use tdcall::TdCallError;
 
 // How many times a request may be made again, from 0 to 7.
 pub type RetryCount = AtMost<7>;
@@ -21,7 +21,8 @@ pub struct Retry<L> {
 impl<L> Retry<L> {
     // A retry of a checked count over a host.
     pub fn new(count: RetryCount, below: L) -> Retry<L>
-        ensures { result ≡ record { count = count; below = below } }
+        ensures retry { result ≡ record { count = count; below = below } }
+        ensures low { count ≤ 7 }
     {
         Retry {
             count: count.number(),
@@ -41,7 +42,7 @@ impl<L> Retry<L> {
 fn is_busy(reply: u64) -> bool
     ensures { result ≡ is_busy reply }
 {
-    decode(reply) == Err(TdCallError::TdxOperandBusy)
+    reply >> 32 == TdCallError::TdxOperandBusy.class()
 }
 
 impl<L: Host> Host for Retry<L> {
@@ -50,12 +51,13 @@ impl<L: Host> Host for Retry<L> {
     ghost sound = { λ s. layer_sounds retrying retry_lawful s.count (L.Host.state s.below).replies (L.Host.state s.below).pages (L.Host.sound s.below) };
 
     fn accept(&mut self, block: Block) -> u64 {
-        for _ in 0..self.count {
-            let reply = self.below.accept(block);
+        let mut reply = 0;
+        for _ in 0..=self.count {
+            reply = self.below.accept(block);
             if !is_busy(reply) {
-                return reply;
+                break;
             }
         }
-        self.below.accept(block)
+        reply
     }
 }

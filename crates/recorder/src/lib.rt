@@ -60,10 +60,10 @@ impl<L> Recorder<L> {
 }
 
 // Adds an exchange, and answers whether there was memory for it.
-fn kept(exchanges: &mut Vec<Exchange>, exchange: Exchange) -> bool
-    ensures { exchanges.new.items ≡ (if result then (exchanges.old.items ++ exchange ∷ []) else exchanges.old.items) }
+fn kept(exchanges: &mut Vec<Exchange>, block: Block, status: u64) -> bool
+    ensures { exchanges.new.items ≡ (if result then (exchanges.old.items ++ record { block = block; status = status } ∷ []) else exchanges.old.items) }
 {
-    exchanges.push(exchange).is_ok()
+    exchanges.push(Exchange { block, status }).is_ok()
 }
 
 impl<L: Host> Host for Recorder<L> {
@@ -73,7 +73,7 @@ impl<L: Host> Host for Recorder<L> {
 
     fn accept(&mut self, block: Block) -> u64 {
         let status = self.below.accept(block);
-        let complete = self.complete && kept(&mut self.exchanges, Exchange { block, status });
+        let complete = self.complete && kept(&mut self.exchanges, block, status);
         self.complete = complete;
         status
     }

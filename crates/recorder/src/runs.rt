@@ -1,7 +1,8 @@
 // Runs: where the items of a list go on, each from the one before it.
-ghost use Rattle.std.specs.Prelude.{◌≡◌, ℕ, ◌+◌, ◌-◌, ◌<◌, ◌≤◌, Bool, true, false, length, nat_eq};
+ghost use Rattle.std.specs.Iterator.{at_most};
+ghost use Rattle.std.specs.Prelude.{◌≡◌, ℕ, ◌+◌, ◌-◌, ◌<◌, ◌≤◌, Bool, true, false, length, nat_eq, option_map};
 ghost use Rattle.recorder.specs.Chains.{goes_on, level_bytes};
-ghost use Rattle.recorder.specs.Runs.{RunEnd};
+ghost use Rattle.recorder.specs.Runs.{NextRun, RunEnd};
 
 use super::Exchange;
 use host::page_level::PageLevel;
@@ -25,6 +26,36 @@ pub fn run_end<T: Chain>(items: &[T], from: usize) -> usize
     match rest.chunk_by(|before, item| item.follows(before)).next() {
         Some(first) => from + first.len(),
         None => from,
+    }
+}
+
+// Goes over the runs of a list, the first of them first.
+#[derive(Debug, Drop)]
+pub struct Runs<'a, T>(&'a [T]);
+
+impl<'a, T> Runs<'a, T> {
+    // All the runs of a list.
+    pub fn new(items: &'a [T]) -> Runs<'a, T>
+        ensures { result.0.now ≡ items.now }
+    {
+        Runs(items)
+    }
+}
+
+impl<'a, T: Chain> Iterator for Runs<'a, T> {
+    type Item = &'a [T];
+
+    ghost next_gives = { λ a r b. NextRun T.chained a.0.now (option_map (λ s. s.now) r) b.0.now };
+
+    ghost remaining = { λ s. at_most (length s.0.now) };
+
+    fn next(&mut self) -> Option<&'a [T]> {
+        if self.0.is_empty() {
+            return None;
+        }
+        let (run, behind) = self.0.split_at(run_end(self.0, 0));
+        self.0 = behind;
+        Some(run)
     }
 }
 

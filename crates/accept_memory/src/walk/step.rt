@@ -178,7 +178,8 @@ impl Walk {
 
     // How many replies the walk took, or the fault that ended it; nothing while it still asks.
     pub fn answer(&self) -> Option<Result<u64, Fault>>
-        ensures { told_if result ≡ last_answer self.now }
+        ensures answer { told_if result ≡ last_answer self.now }
+        ensures course { OnCourse self.now.next self.now.end self.now.count self.now.status self.now.state }
     {
         match self.state {
             WalkState::Asking(_) => None,

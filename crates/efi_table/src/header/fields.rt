@@ -14,40 +14,46 @@ impl Header {
     }
 
     pub fn unit_size_bytes(&self) -> u32
-        ensures { result ≡ self.now.unit }
+        ensures unit { result ≡ self.now.unit }
+        ensures header { IsHeader self.now }
     {
         self.unit
     }
 
     pub fn phys_base(&self) -> u64
-        ensures { result ≡ self.now.base }
+        ensures base { result ≡ self.now.base }
+        ensures header { IsHeader self.now }
     {
         self.base
     }
 
     pub fn bitmap_size_bytes(&self) -> u64
-        ensures { result ≡ self.now.length }
+        ensures bytes { result ≡ self.now.length }
+        ensures header { IsHeader self.now }
     {
         self.length
     }
 
     // The word of the image behind the bitmap, which begins behind the header.
     pub fn bitmap_end(&self) -> usize
-        ensures { result ≡ bitmap_end self.now }
+        ensures end { result ≡ bitmap_end self.now }
+        ensures header { IsHeader self.now }
     {
         (HEADER_WORDS + self.length / WORD_BYTES) as usize
     }
 
     // How many units the table has.
     pub fn total_bits(&self) -> u64
-        ensures { result ≡ units_of self.now }
+        ensures units { result ≡ units_of self.now }
+        ensures header { IsHeader self.now }
     {
         BYTE_BITS * self.length
     }
 
     // How many addresses its units hold.
     pub fn coverage_size(&self) -> u64
-        ensures { result ≡ size_of self.now }
+        ensures size { result ≡ size_of self.now }
+        ensures header { IsHeader self.now }
     {
         self.total_bits() * u64::from(self.unit)
     }

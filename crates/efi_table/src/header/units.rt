@@ -2,7 +2,7 @@
 ghost use Rattle.std.specs.Prelude.{◌≡◌};
 ghost use Rattle.efi_table.specs.Layouts.{units_range};
 ghost use Rattle.efi_table.specs.Laws.{Overlaps};
-ghost use Rattle.efi_table.specs.Shapes.{overlap_of, unit_address};
+ghost use Rattle.efi_table.specs.Shapes.{IsHeader, overlap_of, unit_address};
 
 use super::Header;
 use crate::layout::Range;
@@ -13,6 +13,7 @@ impl Header {
     pub fn overlapping_bit_range(&self, start: u64, end: u64) -> Option<(u64, u64, u64)>
         ensures numbers { result ≡ overlap_of self.now start end }
         ensures touched { Overlaps self.now start end result }
+        ensures header { IsHeader self.now }
     {
         let unit = u64::from(self.unit);
         let coverage = self.coverage_range();
@@ -30,7 +31,8 @@ impl Header {
 
     // The address of a unit; a number past the last unit counts as the one behind it, which begins at the covered end.
     pub fn unit_address(&self, bit: u64) -> u64
-        ensures { result ≡ unit_address self.now bit }
+        ensures address { result ≡ unit_address self.now bit }
+        ensures header { IsHeader self.now }
     {
         let bit = bit.min(self.total_bits());
         self.base + bit * u64::from(self.unit)
@@ -38,7 +40,8 @@ impl Header {
 
     // The addresses of the units from one to the one before another.
     pub fn units_range(&self, first: u64, last: u64) -> Range
-        ensures { result ≡ units_range self.now first last }
+        ensures range { result ≡ units_range self.now first last }
+        ensures header { IsHeader self.now }
     {
         Range {
             start: self.unit_address(first),

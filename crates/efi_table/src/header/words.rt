@@ -2,6 +2,7 @@
 ghost use Rattle.std.specs.Prelude.{◌≡◌};
 ghost use Rattle.efi_table.specs.Images.{after_write, decoded_from, header_in, image_checked, write_answer, written};
 ghost use Rattle.efi_table.specs.Laws.{RoundTrips};
+ghost use Rattle.efi_table.specs.Shapes.{IsHeader};
 
 use super::{Header, VERSION};
 use crate::layout::WORD_BYTES;
@@ -42,7 +43,8 @@ impl Header {
 
     // The words of the header in an image.
     fn words(&self) -> [u64; 3]
-        ensures { result ≡ written self.now }
+        ensures words { result ≡ written self.now }
+        ensures header { IsHeader self.now }
     {
         let first = u64::from(VERSION) + u64::from(self.unit) * UNIT_PLACE;
         [first, self.base, self.length]
@@ -52,17 +54,20 @@ impl Header {
     pub fn write(&self, image: &mut [u64]) -> Result<(), AcceptError>
         ensures answer { result ≡ write_answer image.old }
         ensures image { image.new ≡ after_write self.now image.old }
+        ensures header { IsHeader self.now }
     {
+        let words = self.words();
         let Some(head) = image.first_chunk_mut::<3>() else {
             return Err(AcceptError::WrongImage);
         };
-        *head = self.words();
+        *head = words;
         Ok(())
     }
 
     // Refuses an image that is not the table's: one under three words, with other words 0 to 2, or with the bitmap cut off.
     pub fn check_image(&self, image: &[u64]) -> Result<(), AcceptError>
-        ensures { result ≡ image_checked self.now image.now }
+        ensures answer { result ≡ image_checked self.now image.now }
+        ensures header { IsHeader self.now }
     {
         if !image.starts_with(&self.words()) || image.len() < self.bitmap_end() {
             return Err(AcceptError::WrongImage);

@@ -48,6 +48,6 @@ returns c =
     let block = lies.block in
     let lo : i ≤ j = omega (arith, block.from, block.end) in
     let hi : j ≤ length L = omega (arith, block.end, block.under) in
-    let filled = c.fill.ensures.after (λ y e. e) in
-    let t = granted _ _ _ _ _ _ _ _ lies c.in_default-highest_obstacle.is (put_mid i (j - i) L c.fill.new.self) (rw filled (length_filled L i j lo hi)) (λ k. rw filled (part_filled L i j k lo hi)) in
+    let filled = c.accept_bytes.ensures in
+    let t = granted _ _ _ _ _ _ _ _ lies c.in_default-highest_obstacle.is (put_mid i (j - i) L c.accept_bytes.new.bytes) (rw filled (length_filled L i j lo hi)) (λ k. rw filled (part_filled L i j k lo hi)) in
     record { answer = t.0; bytes = t.1 }
